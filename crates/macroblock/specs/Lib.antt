@@ -1,0 +1,3 @@
+-- The definitions that go with the plain data of a macroblock.
+pub mod Reply
+pub mod Neighbors

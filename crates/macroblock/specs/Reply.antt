@@ -1,0 +1,38 @@
+-- The numbers of the replies.
+use Prim.Native.Nat.{ℕ}
+
+-- the result
+abbrev pub done : ℕ
+done = 0
+
+-- a lent slice has the wrong length
+abbrev pub wrongLength : ℕ
+wrongLength = 1
+
+-- a 4x4 block does not lie in its plane
+abbrev pub outsidePlane : ℕ
+outsidePlane = 2
+
+-- luma mode B where a 16x16 mode is wanted
+abbrev pub bPred : ℕ
+bPred = 3
+
+-- no sub-block modes where mode B wants them
+abbrev pub noSubModes : ℕ
+noSubModes = 4
+
+-- a sum of quantiser indices is outside signed 32 bits
+abbrev pub indexSum : ℕ
+indexSum = 5
+
+-- a sub-block's window passes the end of the B walker's work buffer
+abbrev pub pastBuffer : ℕ
+pastBuffer = 6
+
+-- the picture's size or the macroblock's place is outside its limits
+abbrev pub outsidePicture : ℕ
+outsidePicture = 7
+
+-- a byte is no mode's number
+abbrev pub unknownByte : ℕ
+unknownByte = 8

@@ -1,0 +1,24 @@
+-- `whole::within_byte` meets its contract. Assumes nothing.
+use mathlib.Core.Path.{_∙_, ap}
+use lib.IntN.{pos}
+use Rattle.whole.specs.Whole.{clamp}
+use mir.Syntax.{w32}
+use mir.Val.{toZ, ofZ}
+use mir.Facts.{toZ-ofZ}
+use Rattle.whole.proofs.Clamp.{clamp-low, clamp-high, clamp-self}
+use Rattle.whole.proofs.within_byte.Statement.{statement}
+use Rattle.whole.proofs.within_byte.Tie as tie
+
+returns : tie.Need-returns
+returns c = ap pos (clamp-low (c .before .args .v) (rw (toZ-ofZ (c .before .fits .v)) at (c .if1 .taken)))
+
+returns-2 : tie.Need-returns-2
+returns-2 c = ap pos (clamp-high (c .before .before .args .v) (rw (toZ-ofZ (c .before .before .fits .v)) at (c .if2 .taken)))
+
+returns-3 : tie.Need-returns-3
+returns-3 c =
+    toZ-ofZ (c .before .before .fits .v)
+    ∙ clamp-self (c .before .before .args .v) (rw (toZ-ofZ (c .before .before .fits .v)) at (c .before .if1 .left)) (rw (toZ-ofZ (c .before .before .fits .v)) at (c .if2 .left))
+
+pub within-byte-spec : {M : Type 1} → statement M
+within-byte-spec = tie.close (tie.spec returns returns-2 returns-3)

@@ -1,6 +1,6 @@
 -- RFC 6386, 14.4: the inverse DCT of one 4x4 block, and the exact transform T beside it. Columns first, then rows, then (x + 4) >> 3.
 -- There is ONE text for the two passes, `pass`; a `Way` says what a plain entry, S, K and each sum count as in it.
-use Prim.Native.Nat.{ℕ, zero, suc, _+_}
+use Prim.Native.Nat.{ℕ, zero, suc, _+_, _*_, _/_, _%_}
 use mathlib.Core.List.{List}
 use lib.IntN.{ℤ, pos, _+ℤ_, _-ℤ_, _*ℤ_}
 use lib.ListN.{getD, replicate}
@@ -56,6 +56,10 @@ idct l = rows 4 4 (residue (entry l))
 -- a block whose only coefficient that is not 0 is its first
 unfoldable pub idctDc : ℤ → List ℤ
 idctDc dc = replicate 16 (shrZ (dc +ℤ pos 4) 8)
+
+-- four blocks, one after another, transformed side by side: each of the four rows has 16 residues, those of block b from column 4 b on
+unfoldable pub idctFour : List ℤ → List ℤ
+idctFour l = rows 16 4 (λ r c. residue (λ k. entry l (16 * (c / 4) + k)) r (c % 4))
 
 -- ---- as the RFC's listing counts: the same, with 16 bits kept between the passes
 unfoldable pub residueListing : (ℕ → ℤ) → ℕ → ℕ → ℤ

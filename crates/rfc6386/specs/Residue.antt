@@ -7,7 +7,6 @@ use lib.IntN.{ℤ, pos, _+ℤ_}
 use lib.ListN.{getD, set, length}
 use Rattle.whole.specs.Whole.{clamp}
 use Rattle.lists.specs.Lists.{table, turns, both}
-use Rattle.rfc6386.specs.Dct.{idct}
 
 -- one pixel
 unfoldable pub sum : ℕ → ℤ → ℕ

@@ -14,7 +14,7 @@ use Rattle.macroblock.specs.declared.neighbors.MbNeighbors.{MbNeighbors}
 use Rattle.rfc6386.specs.Wht.{iwht}
 use Rattle.rfc6386.specs.Dct.{residue}
 use Rattle.rfc6386.specs.Residue.{sum}
-use Rattle.rfc6386.specs.Edges.{edgeOr, pixelOr, aboveOr, leftOr, predictY, predictUv}
+use Rattle.rfc6386.specs.Edges.{pixelOr, aboveOr, leftOr, predictY, predictUv}
 use Rattle.rfc6386.specs.Subblock.{predictB}
 
 -- ---- blocks of coefficients

@@ -1,0 +1,3 @@
+-- The laws of the RFC's definitions.
+--     Pictures      the decay pictures that we already know, as one computed table
+pub mod Pictures

@@ -1,0 +1,3 @@
+-- The neighbour record as 81 bytes.
+pub mod Bytes
+pub mod Steps

@@ -61,3 +61,13 @@ build_program() {
     done
     rustc --edition 2021 --crate-name "$name" -C opt-level=3 -L "$out" $externs "$source" -o "$out/$name"
 }
+
+# build_bench FOLDER: the benchmark target/bench/bench. The Rust of FOLDER is built with plain -C opt-level=3.
+build_bench() {
+    find_archive
+    take_rust "$1"
+    build_rust target/bench
+    build_judge target/bench
+    build_library target/bench
+    build_program target/bench bench bench/src/main.rs judge vp8 zopredil
+}

@@ -173,7 +173,7 @@ fn add_into_64(s: &mut Sample) {
     }
 }
 
-/// The sixteen blocks of a luma plane, and what 01 says of its last one: length 256 passes and 255 is refused, stride 15
+/// The sixteen blocks of a luma plane, and the boundary of its last one: length 256 passes and 255 is refused, stride 15
 /// is refused.
 fn add_into_256(s: &mut Sample) {
     for k in 0..16 {

@@ -1,0 +1,108 @@
+//! Whole macroblocks: drawing one (RFC 6386, 14.2 and 12.3) and gathering its neighbours from a picture.
+
+use crate::raw;
+use crate::reply::answer;
+use crate::{IntraBmode, MbModes, Neighbors, Reply};
+
+/// The pixels of a macroblock, each plane in raster order.
+#[derive(Debug, Clone, Copy, PartialEq, Eq, Hash)]
+pub struct Macroblock {
+    /// 16x16 luma pixels.
+    pub y: [u8; 256],
+    /// 8x8 pixels of U.
+    pub u: [u8; 64],
+    /// 8x8 pixels of V.
+    pub v: [u8; 64],
+}
+
+/// Draws a macroblock: predicts it from its neighbours and, unless it is skipped, adds the residue of its dequantised
+/// coefficients: Y2 16, Y 256, U 64, V 64, each block in raster order, of which luma mode B does not use the first 16.
+/// The sub-block modes are used in luma mode B only, which is refused with [`Reply::MissingSubblockModes`] without them.
+///
+/// ```
+/// use zopredil::{macroblock, IntraBmode, IntraUvMode, IntraYMode, MbModes, Neighbors, Reply};
+///
+/// let modes = MbModes { y: IntraYMode::B, uv: IntraUvMode::Dc, skip: true };
+/// let edges = Neighbors::default();
+/// let drawn = macroblock(modes, Some(&[IntraBmode::He; 16]), &edges, &[0; 400])?;
+/// assert_eq!(drawn.y, [129; 256]);
+/// assert_eq!(macroblock(modes, None, &edges, &[0; 400]), Err(Reply::MissingSubblockModes));
+/// # Ok::<(), Reply>(())
+/// ```
+pub fn macroblock(
+    modes: MbModes,
+    sub_modes: Option<&[IntraBmode; 16]>,
+    neighbors: &Neighbors,
+    coeffs: &[i16; 400],
+) -> Result<Macroblock, Reply> {
+    let modes = modes.to_bytes();
+    let sub_modes = sub_modes.map(|modes| modes.map(|mode| mode as u8));
+    let sub_modes = sub_modes.as_ref().map_or(&[][..], |modes| &modes[..]);
+    let record = neighbors.to_bytes();
+    let mut out = [0; 384];
+    // SAFETY: the pointers and the lengths are those of arrays; only out is written.
+    answer(unsafe {
+        raw::zopredil_macroblock(
+            modes.as_ptr(),
+            modes.len(),
+            sub_modes.as_ptr(),
+            sub_modes.len(),
+            record.as_ptr(),
+            record.len(),
+            coeffs.as_ptr(),
+            coeffs.len(),
+            out.as_mut_ptr(),
+            out.len(),
+        )
+    })?;
+    let mut drawn = Macroblock { y: [0; 256], u: [0; 64], v: [0; 64] };
+    drawn.y.copy_from_slice(&out[..256]);
+    drawn.u.copy_from_slice(&out[256..320]);
+    drawn.v.copy_from_slice(&out[320..]);
+    Ok(drawn)
+}
+
+/// Gathers the neighbours of the macroblock in column `col` and row `row` of a picture of finished planes that is `cols`
+/// macroblocks wide and `rows` high. The planes have exactly 256, 64 and 64 bytes a macroblock, rows unpadded. Refused
+/// with [`Reply::OutsidePicture`] unless each side is 1 to 1,024 and the place lies inside, then with
+/// [`Reply::WrongLength`] for a plane.
+///
+/// ```
+/// use zopredil::{gather, Reply};
+///
+/// let (y, u, v) = ([1; 512], [2; 128], [3; 128]);
+/// let edges = gather(&y, &u, &v, 2, 1, 1, 0)?;
+/// assert_eq!((edges.y_left, edges.u_left, edges.y_above), (Some([1; 16]), Some([2; 8]), None));
+/// assert_eq!(gather(&y, &u, &v, 2, 1, 2, 0), Err(Reply::OutsidePicture));
+/// assert_eq!(gather(&y, &u, &u, 3, 1, 2, 0), Err(Reply::WrongLength));
+/// # Ok::<(), Reply>(())
+/// ```
+pub fn gather(
+    y: &[u8],
+    u: &[u8],
+    v: &[u8],
+    cols: usize,
+    rows: usize,
+    col: usize,
+    row: usize,
+) -> Result<Neighbors, Reply> {
+    let mut record = [0; 81];
+    // SAFETY: the pointers and the lengths are those of the slices and of a local array, which alone is written.
+    answer(unsafe {
+        raw::zopredil_gather(
+            y.as_ptr(),
+            y.len(),
+            u.as_ptr(),
+            u.len(),
+            v.as_ptr(),
+            v.len(),
+            cols,
+            rows,
+            col,
+            row,
+            record.as_mut_ptr(),
+            record.len(),
+        )
+    })?;
+    Neighbors::from_bytes(&record)
+}

@@ -1,0 +1,80 @@
+//! The C functions of `libzopredil.a` as `include/zopredil.h` declares them: a slice is a pointer and a length counted
+//! in elements, the answer is a reply number. A pointer has as many elements behind it as its length says, and a slice
+//! that is written overlaps no other; the functions ask nothing else.
+
+#[rustfmt::skip]
+extern "C" {
+    /// The two factors of luma blocks; `out` has 2 numbers.
+    pub fn zopredil_y1_factors(yac_qi: i32, ydc_delta: i32, out: *mut i16, out_len: usize) -> u32;
+
+    /// Dequantises a block of 16 where it stands.
+    pub fn zopredil_dequant_block(coeffs: *mut i16, coeffs_len: usize, dc: i16, ac: i16) -> u32;
+
+    /// The inverse WHT of 16 numbers.
+    pub fn zopredil_inverse_wht(input: *const i16, input_len: usize, out: *mut i16, out_len: usize) -> u32;
+
+    /// The inverse WHT of a block whose other fifteen coefficients are 0.
+    pub fn zopredil_inverse_wht_dc_only(dc: i16, out: *mut i16, out_len: usize) -> u32;
+
+    /// The inverse DCT of 16 numbers.
+    pub fn zopredil_inverse_dct(input: *const i16, input_len: usize, out: *mut i16, out_len: usize) -> u32;
+
+    /// The inverse DCT of 16 numbers, added to a 4x4 block of a plane.
+    pub fn zopredil_inverse_dct_add_into(
+        input: *const i16, input_len: usize,
+        plane: *mut u8, plane_len: usize,
+        stride: usize, sub_row: usize, sub_col: usize,
+    ) -> u32;
+
+    /// Adds residues to predictions; three equal lengths.
+    pub fn zopredil_add_residue(
+        prediction: *const u8, prediction_len: usize,
+        residue: *const i16, residue_len: usize,
+        out: *mut u8, out_len: usize,
+    ) -> u32;
+
+    /// Predicts 16x16 luma pixels; edges of 16 or 0, `out` 256.
+    pub fn zopredil_predict_y16x16(
+        mode: u8,
+        above: *const u8, above_len: usize,
+        left: *const u8, left_len: usize,
+        p: u8,
+        out: *mut u8, out_len: usize,
+    ) -> u32;
+
+    /// Predicts 8x8 chroma pixels; edges of 8 or 0, `out` 64.
+    pub fn zopredil_predict_uv8x8(
+        mode: u8,
+        above: *const u8, above_len: usize,
+        left: *const u8, left_len: usize,
+        p: u8,
+        out: *mut u8, out_len: usize,
+    ) -> u32;
+
+    /// Predicts a 4x4 luma sub-block; `above` 8, `left` 4, `out` 16.
+    pub fn zopredil_predict_b4x4(
+        mode: u8,
+        above: *const u8, above_len: usize,
+        left: *const u8, left_len: usize,
+        p: u8,
+        out: *mut u8, out_len: usize,
+    ) -> u32;
+
+    /// Draws a macroblock; `modes` 3, `sub_modes` 16 or 0, `record` 81, `coeffs` 400, `out` 384.
+    pub fn zopredil_macroblock(
+        modes: *const u8, modes_len: usize,
+        sub_modes: *const u8, sub_modes_len: usize,
+        record: *const u8, record_len: usize,
+        coeffs: *const i16, coeffs_len: usize,
+        out: *mut u8, out_len: usize,
+    ) -> u32;
+
+    /// Gathers the neighbour record of a macroblock; `record` 81.
+    pub fn zopredil_gather(
+        y: *const u8, y_len: usize,
+        u: *const u8, u_len: usize,
+        v: *const u8, v_len: usize,
+        cols: usize, rows: usize, col: usize, row: usize,
+        record: *mut u8, record_len: usize,
+    ) -> u32;
+}

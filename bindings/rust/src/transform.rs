@@ -1,0 +1,145 @@
+//! Dequantising, the inverse transforms and the residue sum (RFC 6386, section 14).
+
+use crate::raw;
+use crate::reply::{answer, done};
+use crate::Reply;
+
+/// The factors of luma blocks.
+#[derive(Debug, Clone, Copy, PartialEq, Eq, Hash)]
+pub struct Y1DequantFactors {
+    /// The factor of a block's first coefficient.
+    pub dc: i16,
+    /// The factor of the other fifteen.
+    pub ac: i16,
+}
+
+/// The factors of luma blocks (14.1): DC of index `yac_qi + ydc_delta`, AC of index `yac_qi`, each clamped to 0..=127.
+/// Refused with [`Reply::IndexSum`] where the sum is outside signed 32 bits.
+///
+/// ```
+/// use zopredil::{y1_factors, Reply, Y1DequantFactors};
+///
+/// assert_eq!(y1_factors(0, 128), Ok(Y1DequantFactors { dc: 157, ac: 4 }));
+/// assert_eq!(y1_factors(i32::MAX, 1), Err(Reply::IndexSum));
+/// ```
+pub fn y1_factors(yac_qi: i32, ydc_delta: i32) -> Result<Y1DequantFactors, Reply> {
+    let mut out = [0; 2];
+    // SAFETY: the pointer and the length are those of a local array.
+    answer(unsafe { raw::zopredil_y1_factors(yac_qi, ydc_delta, out.as_mut_ptr(), out.len()) })?;
+    Ok(Y1DequantFactors { dc: out[0], ac: out[1] })
+}
+
+/// Dequantises a 4x4 block where it stands (14.1): the first coefficient times `dc`, the others times `ac`, each product
+/// cut to signed 16 bits.
+///
+/// ```
+/// let mut block = [2; 16];
+/// zopredil::dequant_block(&mut block, 10, 20);
+/// assert_eq!(block[..3], [20, 40, 40]);
+/// ```
+pub fn dequant_block(coeffs: &mut [i16; 16], dc: i16, ac: i16) {
+    // SAFETY: the pointer and the length are the array's.
+    done(unsafe { raw::zopredil_dequant_block(coeffs.as_mut_ptr(), coeffs.len(), dc, ac) });
+}
+
+/// The inverse Walsh-Hadamard transform of a Y2 block (14.3): the DC coefficients of the sixteen luma blocks.
+///
+/// ```
+/// let mut y2 = [0; 16];
+/// y2[0] = 5;
+/// assert_eq!(zopredil::inverse_wht(&y2), [1; 16]);
+/// ```
+pub fn inverse_wht(input: &[i16; 16]) -> [i16; 16] {
+    let mut out = [0; 16];
+    // SAFETY: the pointers and the lengths are those of the two arrays.
+    done(unsafe { raw::zopredil_inverse_wht(input.as_ptr(), input.len(), out.as_mut_ptr(), out.len()) });
+    out
+}
+
+/// The inverse WHT of a block whose other fifteen coefficients are 0 (14.3).
+///
+/// ```
+/// assert_eq!(zopredil::inverse_wht_dc_only(-4), [-1; 16]);
+/// ```
+pub fn inverse_wht_dc_only(dc: i16) -> [i16; 16] {
+    let mut out = [0; 16];
+    // SAFETY: the pointer and the length are those of a local array.
+    done(unsafe { raw::zopredil_inverse_wht_dc_only(dc, out.as_mut_ptr(), out.len()) });
+    out
+}
+
+/// The inverse DCT of a 4x4 block (14.4): the residue that is added to the prediction.
+///
+/// ```
+/// let mut block = [0; 16];
+/// block[1] = 100;
+/// assert_eq!(zopredil::inverse_dct(&block)[..4], [16, 7, -7, -16]);
+/// ```
+pub fn inverse_dct(input: &[i16; 16]) -> [i16; 16] {
+    let mut out = [0; 16];
+    // SAFETY: the pointers and the lengths are those of the two arrays.
+    done(unsafe { raw::zopredil_inverse_dct(input.as_ptr(), input.len(), out.as_mut_ptr(), out.len()) });
+    out
+}
+
+/// The inverse DCT of a 4x4 block, added to the prediction that stands in a plane (14.4 and 14.5). The block's first
+/// pixel is in row `4 * sub_row` and column `4 * sub_col` of rows that are `stride` apart. Refused with
+/// [`Reply::OutsidePlane`] where the block does not lie in the plane, which is then untouched.
+///
+/// ```
+/// use zopredil::{inverse_dct_add_into, Reply};
+///
+/// let mut plane = [100; 64];
+/// let mut block = [0; 16];
+/// block[0] = 16;
+/// inverse_dct_add_into(&block, &mut plane, 8, 1, 1)?;
+/// assert_eq!((plane[0], plane[36]), (100, 102));
+/// assert_eq!(inverse_dct_add_into(&block, &mut plane, 8, 2, 0), Err(Reply::OutsidePlane));
+/// # Ok::<(), Reply>(())
+/// ```
+pub fn inverse_dct_add_into(
+    input: &[i16; 16],
+    plane: &mut [u8],
+    stride: usize,
+    sub_row: usize,
+    sub_col: usize,
+) -> Result<(), Reply> {
+    // SAFETY: the pointers and the lengths are those of the array and of the slice, which is lent alone.
+    answer(unsafe {
+        raw::zopredil_inverse_dct_add_into(
+            input.as_ptr(),
+            input.len(),
+            plane.as_mut_ptr(),
+            plane.len(),
+            stride,
+            sub_row,
+            sub_col,
+        )
+    })
+}
+
+/// Adds residues to predictions (14.5), each sum clamped to 0..=255. Refused with [`Reply::WrongLength`] unless the
+/// three lengths are equal; nothing is written then.
+///
+/// ```
+/// use zopredil::{add_residue, Reply};
+///
+/// let mut out = [0; 3];
+/// add_residue(&[250, 5, 100], &[10, -10, 1], &mut out)?;
+/// assert_eq!(out, [255, 0, 101]);
+/// assert_eq!(add_residue(&[1, 2], &[0, 0], &mut out), Err(Reply::WrongLength));
+/// # Ok::<(), Reply>(())
+/// ```
+pub fn add_residue(prediction: &[u8], residue: &[i16], out: &mut [u8]) -> Result<(), Reply> {
+    // SAFETY: the pointers and the lengths are the slices', and out is lent alone.
+    answer(unsafe {
+        raw::zopredil_add_residue(
+            prediction.as_ptr(),
+            prediction.len(),
+            residue.as_ptr(),
+            residue.len(),
+            out.as_mut_ptr(),
+            out.len(),
+        )
+    })
+}

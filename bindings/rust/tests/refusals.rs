@@ -1,0 +1,256 @@
+//! What each function refuses, by which number, and what it leaves in the slices it was lent. Wrong lengths are tried
+//! over the C functions themselves, since the crate's own types rule most of them out.
+
+use zopredil::raw::*;
+use zopredil::*;
+
+/// The byte that slices hold before a call, to see what was written.
+const MARK: u8 = 0xA5;
+
+#[test]
+fn index_sums_outside_32_bits() {
+    assert_eq!(y1_factors(i32::MAX, 1), Err(Reply::IndexSum));
+    assert_eq!(y1_factors(i32::MIN, -1), Err(Reply::IndexSum));
+    assert!(y1_factors(i32::MAX, 0).is_ok());
+    assert!(y1_factors(i32::MIN, 0).is_ok());
+    let mut out = [-1; 2];
+    assert_eq!(unsafe { zopredil_y1_factors(i32::MAX, i32::MAX, out.as_mut_ptr(), 2) }, 5);
+    assert_eq!(out, [0, 0]);
+}
+
+#[test]
+fn blocks_outside_their_plane() {
+    let block = [1000; 16];
+    let mut plane = [MARK; 256];
+    assert_eq!(inverse_dct_add_into(&block, &mut plane[..255], 16, 3, 3), Err(Reply::OutsidePlane));
+    assert_eq!(inverse_dct_add_into(&block, &mut plane, 15, 3, 3), Err(Reply::OutsidePlane));
+    assert_eq!(inverse_dct_add_into(&block, &mut plane, 0, 0, 0), Err(Reply::OutsidePlane));
+    for far in [4, 1 << 60, 1 << 62, usize::MAX] {
+        assert_eq!(inverse_dct_add_into(&block, &mut plane, 16, far, 0), Err(Reply::OutsidePlane));
+        assert_eq!(inverse_dct_add_into(&block, &mut plane, 16, 0, far), Err(Reply::OutsidePlane));
+    }
+    assert_eq!(inverse_dct_add_into(&block, &mut plane, usize::MAX, 0, 0), Err(Reply::OutsidePlane));
+    assert_eq!(inverse_dct_add_into(&block, &mut [], 16, 0, 0), Err(Reply::OutsidePlane));
+    assert_eq!(plane, [MARK; 256]);
+    assert_eq!(inverse_dct_add_into(&block, &mut plane, 16, 3, 3), Ok(()));
+}
+
+#[test]
+fn residues_of_other_lengths() {
+    let mut out = [MARK; 5];
+    for (prediction, residue, lent) in [(4, 4, 5), (4, 5, 4), (5, 4, 4), (0, 0, 1), (0, 1, 0), (1, 0, 0)] {
+        let refused = add_residue(&[1; 5][..prediction], &[1; 5][..residue], &mut out[..lent]);
+        assert_eq!(refused, Err(Reply::WrongLength));
+    }
+    assert_eq!(out, [MARK; 5]);
+}
+
+#[test]
+fn luma_mode_b_is_no_16x16_mode() {
+    assert_eq!(predict_y16x16(IntraYMode::B, None, None, 0), Err(Reply::BPredNotSupported));
+    let mut out = [MARK; 256];
+    let none = std::ptr::null();
+    assert_eq!(unsafe { zopredil_predict_y16x16(4, none, 0, none, 0, 0, out.as_mut_ptr(), 256) }, 3);
+    assert_eq!(out, [0; 256]);
+}
+
+#[test]
+fn unknown_modes_of_predictions() {
+    let edge = [1; 16];
+    for mode in [5, 10, 255] {
+        let mut out = [MARK; 256];
+        let reply = unsafe {
+            zopredil_predict_y16x16(mode, edge.as_ptr(), 16, edge.as_ptr(), 16, 0, out.as_mut_ptr(), out.len())
+        };
+        assert_eq!((reply, out), (8, [0; 256]));
+    }
+    for mode in [4, 10, 255] {
+        let mut out = [MARK; 64];
+        let reply =
+            unsafe { zopredil_predict_uv8x8(mode, edge.as_ptr(), 8, edge.as_ptr(), 8, 0, out.as_mut_ptr(), out.len()) };
+        assert_eq!((reply, out), (8, [0; 64]));
+    }
+    for mode in [10, 255] {
+        let mut out = [MARK; 16];
+        let reply =
+            unsafe { zopredil_predict_b4x4(mode, edge.as_ptr(), 8, edge.as_ptr(), 4, 0, out.as_mut_ptr(), out.len()) };
+        assert_eq!((reply, out), (8, [0; 16]));
+    }
+}
+
+/// Draws a macroblock through the C interface: the reply, and what stands in the 384 bytes afterwards.
+fn draw(modes: &[u8], sub_modes: &[u8], record: &[u8], coeffs: &[i16]) -> (u32, [u8; 384]) {
+    let mut out = [MARK; 384];
+    let reply = unsafe {
+        zopredil_macroblock(
+            modes.as_ptr(),
+            modes.len(),
+            sub_modes.as_ptr(),
+            sub_modes.len(),
+            record.as_ptr(),
+            record.len(),
+            coeffs.as_ptr(),
+            coeffs.len(),
+            out.as_mut_ptr(),
+            out.len(),
+        )
+    };
+    (reply, out)
+}
+
+#[test]
+fn mode_b_without_sub_block_modes() {
+    let modes = MbModes { y: IntraYMode::B, uv: IntraUvMode::Dc, skip: false };
+    assert_eq!(macroblock(modes, None, &Neighbors::default(), &[1; 400]), Err(Reply::MissingSubblockModes));
+    assert_eq!(draw(&[4, 0, 0], &[], &[0; 81], &[1; 400]), (4, [0; 384]));
+}
+
+#[test]
+fn unknown_bytes_of_a_macroblock() {
+    let refused = (8, [0; 384]);
+    for modes in [[5, 0, 0], [0, 4, 0], [0, 0, 2], [255, 255, 255]] {
+        assert_eq!(draw(&modes, &[0; 16], &[0; 81], &[0; 400]), refused);
+    }
+    for mark in 0..10 {
+        let mut record = [0; 81];
+        record[mark] = 2;
+        assert_eq!(draw(&[0, 0, 0], &[], &record, &[0; 400]), refused);
+        assert_eq!(draw(&[4, 0, 0], &[], &record, &[0; 400]), refused); // 8 comes before 4
+    }
+    for block in 0..16 {
+        let mut sub_modes = [0; 16];
+        sub_modes[block] = 10;
+        assert_eq!(draw(&[4, 0, 0], &sub_modes, &[0; 81], &[0; 400]), refused);
+        assert_eq!(draw(&[0, 0, 0], &sub_modes, &[0; 81], &[0; 400]).0, 0);
+    }
+}
+
+#[test]
+fn wrong_lengths_of_a_macroblock() {
+    let (modes, sub_modes, record, coeffs) = ([0; 4], [0; 17], [0; 82], [0; 401]);
+    let refused = (1, [MARK; 384]);
+    for n in [0, 2, 4] {
+        assert_eq!(draw(&modes[..n], &[], &record[..81], &coeffs[..400]), refused);
+    }
+    for n in [1, 15, 17] {
+        assert_eq!(draw(&modes[..3], &sub_modes[..n], &record[..81], &coeffs[..400]), refused);
+    }
+    for n in [0, 80, 82] {
+        assert_eq!(draw(&modes[..3], &[], &record[..n], &coeffs[..400]), refused);
+    }
+    for n in [0, 384, 399, 401] {
+        assert_eq!(draw(&modes[..3], &[], &record[..81], &coeffs[..n]), refused);
+    }
+    assert_eq!(draw(&[9, 9, 9], &[], &[9; 80], &coeffs[..400]), refused); // 1 comes before 8
+    assert_eq!(draw(&modes[..3], &[], &record[..81], &coeffs[..400]).0, 0);
+}
+
+#[test]
+fn wrong_lengths_of_blocks() {
+    let input = [1; 17];
+    let mut out = [-7; 17];
+    for n in [0, 15, 17] {
+        unsafe {
+            assert_eq!(zopredil_dequant_block(out.as_mut_ptr(), n, 2, 2), 1);
+            assert_eq!(zopredil_inverse_wht(input.as_ptr(), n, out.as_mut_ptr(), 16), 1);
+            assert_eq!(zopredil_inverse_wht(input.as_ptr(), 16, out.as_mut_ptr(), n), 1);
+            assert_eq!(zopredil_inverse_wht_dc_only(5, out.as_mut_ptr(), n), 1);
+            assert_eq!(zopredil_inverse_dct(input.as_ptr(), n, out.as_mut_ptr(), 16), 1);
+            assert_eq!(zopredil_inverse_dct(input.as_ptr(), 16, out.as_mut_ptr(), n), 1);
+            let mut plane = [MARK; 64];
+            assert_eq!(zopredil_inverse_dct_add_into(input.as_ptr(), n, plane.as_mut_ptr(), 64, 8, 0, 0), 1);
+            assert_eq!(plane, [MARK; 64]);
+        }
+    }
+    for n in [0, 1, 3] {
+        assert_eq!(unsafe { zopredil_y1_factors(0, 0, out.as_mut_ptr(), n) }, 1);
+    }
+    assert_eq!(out, [-7; 17]);
+}
+
+#[test]
+fn wrong_lengths_of_predictions() {
+    let edge = [1; 17];
+    let mut out = [MARK; 257];
+    type Predict = unsafe extern "C" fn(u8, *const u8, usize, *const u8, usize, u8, *mut u8, usize) -> u32;
+    let mut refuse = |predict: Predict, above, left, lent| {
+        let reply = unsafe { predict(0, edge.as_ptr(), above, edge.as_ptr(), left, 0, out.as_mut_ptr(), lent) };
+        assert_eq!((reply, out), (1, [MARK; 257]));
+    };
+    for n in [1, 15, 17] {
+        refuse(zopredil_predict_y16x16, n, 16, 256);
+        refuse(zopredil_predict_y16x16, 16, n, 256);
+    }
+    for n in [1, 7, 9] {
+        refuse(zopredil_predict_uv8x8, n, 8, 64);
+        refuse(zopredil_predict_uv8x8, 8, n, 64);
+    }
+    for n in [0, 4, 7, 9] {
+        refuse(zopredil_predict_b4x4, n, 4, 16);
+    }
+    for n in [0, 3, 5] {
+        refuse(zopredil_predict_b4x4, 8, n, 16);
+    }
+    for n in [0, 255, 257] {
+        refuse(zopredil_predict_y16x16, 16, 16, n);
+    }
+    for n in [0, 63, 65] {
+        refuse(zopredil_predict_uv8x8, 8, 8, n);
+    }
+    for n in [0, 15, 17] {
+        refuse(zopredil_predict_b4x4, 8, 4, n);
+    }
+}
+
+#[test]
+fn places_outside_the_picture() {
+    let (y, u, v) = ([0; 256], [0; 64], [0; 64]);
+    for (cols, rows, col, row) in
+        [(0, 1, 0, 0), (1, 0, 0, 0), (1025, 1, 0, 0), (1, 1025, 0, 0), (1, 1, 1, 0), (1, 1, 0, 1)]
+    {
+        assert_eq!(gather(&y, &u, &v, cols, rows, col, row), Err(Reply::OutsidePicture));
+    }
+    assert_eq!(gather(&y, &u, &v, 1 << 56, 1 << 8, 0, 0), Err(Reply::OutsidePicture));
+    assert_eq!(gather(&y, &u, &v, usize::MAX, usize::MAX, 0, 0), Err(Reply::OutsidePicture));
+    assert_eq!(gather(&y, &u, &v, 1, 1, 0, 0), Ok(Neighbors::default()));
+}
+
+#[test]
+fn planes_of_other_lengths() {
+    let (y, u) = ([0; 257], [0; 65]);
+    for (y_len, u_len, v_len) in [(255, 64, 64), (257, 64, 64), (256, 63, 64), (256, 65, 64), (256, 64, 0)] {
+        assert_eq!(gather(&y[..y_len], &u[..u_len], &u[..v_len], 1, 1, 0, 0), Err(Reply::WrongLength));
+    }
+    assert_eq!(gather(&[], &[], &[], 1, 1, 1, 0), Err(Reply::OutsidePicture)); // 7 comes before 1
+}
+
+#[test]
+fn records_after_a_refusal() {
+    let (y, u) = ([9; 256], [9; 64]);
+    let gathered = |y_len, cols, record_len| {
+        let mut record = [MARK; 82];
+        let reply = unsafe {
+            let (y, u) = (y.as_ptr(), u.as_ptr());
+            zopredil_gather(y, y_len, u, 64, u, 64, cols, 1, 0, 0, record.as_mut_ptr(), record_len)
+        };
+        (reply, record)
+    };
+    let mut zeros = [0; 82];
+    zeros[81] = MARK;
+    assert_eq!(gathered(256, 0, 81), (7, zeros));
+    assert_eq!(gathered(255, 1, 81), (1, zeros));
+    assert_eq!(gathered(256, 1, 80), (1, [MARK; 82]));
+    assert_eq!(gathered(256, 1, 82), (1, [MARK; 82]));
+    assert_eq!(gathered(256, 0, 80), (1, [MARK; 82])); // 1 for the record comes before 7
+}
+
+#[test]
+fn replies_have_their_numbers() {
+    for number in 1..=8 {
+        let reply = Reply::from_number(number).unwrap();
+        assert_eq!(reply.number(), number);
+        assert!(!reply.to_string().is_empty());
+    }
+    assert_eq!(Reply::from_number(0), None);
+    assert_eq!(Reply::from_number(9), None);
+}

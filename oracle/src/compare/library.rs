@@ -1,0 +1,114 @@
+//! The twelve functions of the library, called through the C interface with slices of any length. An empty slice is
+//! handed over as a null pointer.
+
+use std::ptr;
+use zopredil::raw;
+
+fn start<T>(lent: &[T]) -> *const T {
+    if lent.is_empty() {
+        ptr::null()
+    } else {
+        lent.as_ptr()
+    }
+}
+
+fn start_mut<T>(lent: &mut [T]) -> *mut T {
+    if lent.is_empty() {
+        ptr::null_mut()
+    } else {
+        lent.as_mut_ptr()
+    }
+}
+
+// SAFETY, for every call: a pointer and its length are those of a slice, and the slice that is written is lent alone.
+
+pub fn y1_factors(yac_qi: i32, ydc_delta: i32, out: &mut [i16]) -> u32 {
+    unsafe { raw::zopredil_y1_factors(yac_qi, ydc_delta, start_mut(out), out.len()) }
+}
+
+pub fn dequant_block(coeffs: &mut [i16], dc: i16, ac: i16) -> u32 {
+    unsafe { raw::zopredil_dequant_block(start_mut(coeffs), coeffs.len(), dc, ac) }
+}
+
+pub fn inverse_wht(input: &[i16], out: &mut [i16]) -> u32 {
+    unsafe { raw::zopredil_inverse_wht(start(input), input.len(), start_mut(out), out.len()) }
+}
+
+pub fn inverse_wht_dc_only(dc: i16, out: &mut [i16]) -> u32 {
+    unsafe { raw::zopredil_inverse_wht_dc_only(dc, start_mut(out), out.len()) }
+}
+
+pub fn inverse_dct(input: &[i16], out: &mut [i16]) -> u32 {
+    unsafe { raw::zopredil_inverse_dct(start(input), input.len(), start_mut(out), out.len()) }
+}
+
+pub fn inverse_dct_add_into(input: &[i16], plane: &mut [u8], stride: usize, sub_row: usize, sub_col: usize) -> u32 {
+    let (at, len) = (start_mut(plane), plane.len());
+    unsafe { raw::zopredil_inverse_dct_add_into(start(input), input.len(), at, len, stride, sub_row, sub_col) }
+}
+
+pub fn add_residue(prediction: &[u8], residue: &[i16], out: &mut [u8]) -> u32 {
+    let (p, r) = (start(prediction), start(residue));
+    unsafe { raw::zopredil_add_residue(p, prediction.len(), r, residue.len(), start_mut(out), out.len()) }
+}
+
+pub fn predict_y16x16(mode: u8, above: &[u8], left: &[u8], p: u8, out: &mut [u8]) -> u32 {
+    let (a, l) = (start(above), start(left));
+    unsafe { raw::zopredil_predict_y16x16(mode, a, above.len(), l, left.len(), p, start_mut(out), out.len()) }
+}
+
+pub fn predict_uv8x8(mode: u8, above: &[u8], left: &[u8], p: u8, out: &mut [u8]) -> u32 {
+    let (a, l) = (start(above), start(left));
+    unsafe { raw::zopredil_predict_uv8x8(mode, a, above.len(), l, left.len(), p, start_mut(out), out.len()) }
+}
+
+pub fn predict_b4x4(mode: u8, above: &[u8], left: &[u8], p: u8, out: &mut [u8]) -> u32 {
+    let (a, l) = (start(above), start(left));
+    unsafe { raw::zopredil_predict_b4x4(mode, a, above.len(), l, left.len(), p, start_mut(out), out.len()) }
+}
+
+pub fn macroblock(modes: &[u8], sub_modes: &[u8], record: &[u8], coeffs: &[i16], out: &mut [u8]) -> u32 {
+    unsafe {
+        raw::zopredil_macroblock(
+            start(modes),
+            modes.len(),
+            start(sub_modes),
+            sub_modes.len(),
+            start(record),
+            record.len(),
+            start(coeffs),
+            coeffs.len(),
+            start_mut(out),
+            out.len(),
+        )
+    }
+}
+
+#[allow(clippy::too_many_arguments)] // the parameters of the C function
+pub fn gather(
+    y: &[u8],
+    u: &[u8],
+    v: &[u8],
+    cols: usize,
+    rows: usize,
+    col: usize,
+    row: usize,
+    record: &mut [u8],
+) -> u32 {
+    unsafe {
+        raw::zopredil_gather(
+            start(y),
+            y.len(),
+            start(u),
+            u.len(),
+            start(v),
+            v.len(),
+            cols,
+            rows,
+            col,
+            row,
+            start_mut(record),
+            record.len(),
+        )
+    }
+}

@@ -1,6 +1,6 @@
 -- 14.3: with sixteen numbers of 16 bits no sum of the inverse WHT leaves 2^20, and on a block whose other fifteen coefficients are 0 the transform
 -- is its DC-only form. Assumes nothing.
-use mathlib.Core.Path.{_≡_, refl, _∙_}
+use mathlib.Core.Path.{_≡_, _∙_}
 use mathlib.Core.List.{List}
 use Prim.Native.Nat.{ℕ, zero, suc, _+_, _*_, _<_, _≤_}
 use native.Mathlib.Omega.{arith}

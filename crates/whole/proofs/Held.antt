@@ -1,13 +1,13 @@
 -- What a local of 32 or of 16 bits gives back: a need shows each value that went through a local as `toZ w (ofZ w z)`, and these laws take it off.
 --     held32, held16   a call's result: `held32 (c .F .result) (c .F .ok)`
 --     shr-held         a call's result shifted down in place, `f(..) >> k`
---     elem16           an element of an array of 16-bit numbers, from what is known of the array: `elem16 _ _ k (c .good .0 .1 .1)`
+--     elem16           an element of an array of 16-bit numbers, from what is known of the array: `elem16 (c .args .xs) (c .good .0 .0) k (c .good .0 .1 .1)`
 --     add64 ..         two 32-bit numbers: their sum, difference and product fit 64 bits
 -- Assumes nothing.
 use Prim.Native.Nat.{ℕ, zero, suc, _+_, _*_, _^_, _≤_, _<_}
 use native.Mathlib.Omega.{arith}
 use native.Mathlib.Nat.{mul-le-mul, lt-of-le-of-lt}
-use mathlib.Core.Path.{_≡_, _∙_}
+use mathlib.Core.Path.{_≡_}
 use mathlib.Core.List.{List, [], _∷_}
 use lib.IntN.{ℤ, pos, negsuc, natAbs, _+ℤ_, _-ℤ_, _*ℤ_}
 use lib.ListN.{getD}

@@ -7,9 +7,10 @@ use lib.IntN.{ℤ}
 use lib.Signed.{mag}
 use Rattle.whole.proofs.Held.{R16, R32, held16, held32}
 use Rattle.rfc6386.specs.Dct.{entry}
-use Rattle.dct.specs.declared.Four.{Four}
-use Rattle.dct.specs.declared.Short.{Short}
-use Rattle.dct.specs.Lines.{lineOf, rowOf, stored, columnTurn, rowTurn}
+use Rattle.dct_line.specs.declared.Four.{Four}
+use Rattle.dct_line.specs.declared.Short.{Short}
+use Rattle.dct_line.specs.Lines.{lineOf, rowOf}
+use Rattle.dct.specs.Turns.{stored, columnTurn, rowTurn}
 
 stored-same : (i0 i1 i2 i3 : ℕ) (l : List ℤ) {u0 u1 u2 u3 v0 v1 v2 v3 : ℤ} → u0 ≡ v0 → u1 ≡ v1 → u2 ≡ v2 → u3 ≡ v3
     → stored i0 i1 i2 i3 u0 u1 u2 u3 l ≡ stored i0 i1 i2 i3 v0 v1 v2 v3 l

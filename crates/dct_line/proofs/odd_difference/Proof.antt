@@ -1,9 +1,9 @@
--- `dct::odd_difference` meets its contract. Assumes nothing.
+-- `dct_line::odd_difference` meets its contract. Assumes nothing.
 use mir.Facts.{toZ-ofZ}
 use Rattle.whole.proofs.Held.{held32}
-use Rattle.dct.specs.Lines.{oddDifference}
-use Rattle.dct.proofs.odd_difference.Statement.{statement}
-use Rattle.dct.proofs.odd_difference.Tie as tie
+use Rattle.dct_line.specs.Lines.{oddDifference}
+use Rattle.dct_line.proofs.odd_difference.Statement.{statement}
+use Rattle.dct_line.proofs.odd_difference.Tie as tie
 
 returns : tie.Need-returns
 unfolding oddDifference

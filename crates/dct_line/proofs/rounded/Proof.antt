@@ -1,9 +1,9 @@
--- `dct::rounded` meets its contract. Assumes nothing.
+-- `dct_line::rounded` meets its contract. Assumes nothing.
 use mir.Facts.{toZ-ofZ}
 use Rattle.rfc6386.specs.Dct.{rounded}
 use Rattle.whole.proofs.Held.{held16, shr-held}
-use Rattle.dct.proofs.rounded.Statement.{statement}
-use Rattle.dct.proofs.rounded.Tie as tie
+use Rattle.dct_line.proofs.rounded.Statement.{statement}
+use Rattle.dct_line.proofs.rounded.Tie as tie
 
 returns : tie.Need-returns
 unfolding rounded

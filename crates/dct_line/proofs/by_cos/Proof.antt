@@ -1,9 +1,9 @@
--- `dct::by_cos` meets its contract. Assumes nothing.
+-- `dct_line::by_cos` meets its contract. Assumes nothing.
 use mir.Facts.{toZ-ofZ}
 use Rattle.rfc6386.specs.Dct.{byCos}
 use Rattle.whole.proofs.Held.{held32}
-use Rattle.dct.proofs.by_cos.Statement.{statement}
-use Rattle.dct.proofs.by_cos.Tie as tie
+use Rattle.dct_line.proofs.by_cos.Statement.{statement}
+use Rattle.dct_line.proofs.by_cos.Tie as tie
 
 returns : tie.Need-returns
 unfolding byCos

@@ -1,9 +1,9 @@
--- `dct::odd_sum` meets its contract. Assumes nothing.
+-- `dct_line::odd_sum` meets its contract. Assumes nothing.
 use mir.Facts.{toZ-ofZ}
 use Rattle.whole.proofs.Held.{held32}
-use Rattle.dct.specs.Lines.{oddSum}
-use Rattle.dct.proofs.odd_sum.Statement.{statement}
-use Rattle.dct.proofs.odd_sum.Tie as tie
+use Rattle.dct_line.specs.Lines.{oddSum}
+use Rattle.dct_line.proofs.odd_sum.Statement.{statement}
+use Rattle.dct_line.proofs.odd_sum.Tie as tie
 
 returns : tie.Need-returns
 unfolding oddSum

@@ -3,6 +3,7 @@
 --     Table      a list filled from the front, read at a place, equal where the rules agree
 --     Rows       the same for a block that is drawn row by row
 --     Parts      a part of a slice, lent to a call
+--     Updates    what stands where after a loop that replaces entries by functions of them
 --     Tests      what a test of several says
 --     Answer     one answer only: what it is, of any function
 --     Every      a rule of a table, by one test that is computed over all of its entries
@@ -10,6 +11,7 @@ pub mod Turns
 pub mod Table
 pub mod Rows
 pub mod Parts
+pub mod Updates
 pub mod Tests
 pub mod Every
 pub mod Answer

@@ -1,0 +1,19 @@
+-- The answer of a gathering: 7 for a size or a place outside its limits, then 1 for a plane of the wrong length, each with every edge
+-- absent; else the neighbours of the macroblock in column c and row r of a picture of w by h macroblocks.
+use Prim.Native.Nat.{ℕ}
+use mathlib.Core.List.{List}
+use lib.ListN.{length}
+use Rattle.lists.specs.Lists.{pick}
+use Rattle.macroblock.specs.Neighbors.{absent}
+use Rattle.macroblock.specs.Reply.{done, wrongLength, outsidePicture}
+use Rattle.rfc6386.specs.Picture.{neighborsOf, placeOk, sizesOk}
+use Rattle.gathering.specs.declared.Gathered.{Gathered}
+
+abbrev pub refused : ℕ → Gathered
+refused number = record { reply = number; neighbors = absent }
+
+unfoldable pub gathered : List ℕ → List ℕ → List ℕ → ℕ → ℕ → ℕ → ℕ → Gathered
+gathered y u v w h c r =
+    pick (placeOk w h c r)
+    (pick (sizesOk (length y) (length u) (length v) w h) (record { reply = done; neighbors = neighborsOf y u v w r c }) (refused wrongLength))
+    (refused outsidePicture)

@@ -2,8 +2,8 @@
 --     Given         when a row's part is given, and what it then holds
 --     Accepted        what the tests of the size, the place and the planes' lengths say
 --     Bounds        the bounds that the edges of a macroblock keep to in its plane
---     Record        the neighbour record, put together from the edges of the planes
+--     Joined        the neighbour record, put together from the edges of the planes
 pub mod Given
 pub mod Accepted
 pub mod Bounds
-pub mod Record
+pub mod Joined

@@ -8,9 +8,9 @@ use native.Mathlib.Nat.{mul-le-mul-left, mul-suc, mul-assoc, mul-comm, mul-left-
 use native.Mathlib.Omega.{arith}
 use lib.Dec.{T, leb, ltb, eqb, leb→le, ltb→lt, eqb→eq, eqb-refl}
 use lib.ListN.{length}
-use borrow.Author.Tests.{eq-eqb, ne-eqb, eqb-true, eqb-false}
+use borrow.Author.Tests.{lt-ltb, le-leb, eq-eqb, ne-eqb, eqb-true, eqb-false}
 use Rattle.lists.specs.Lists.{both}
-use Rattle.lists.proofs.Tests.{both-false, both-says, T-true, same-test}
+use Rattle.lists.proofs.Tests.{both-says, T-true, same-test}
 use Rattle.rfc6386.specs.Picture.{placeOk, sizesOk}
 use Rattle.gathering.specs.Place.{Placed}
 
@@ -23,6 +23,14 @@ module _ (w h c r : ℕ) where
       let d = both-says (ltb c w) (ltb r h) (T-true _ (b .1)) in
       (leb→le _ _ (a .0), leb→le _ _ (b .0), ltb→lt _ _ (d .0), ltb→lt _ _ (d .1))
 
+  pub place-false : (w ≤ 1024 → h ≤ 1024 → c < w → r < h → ⊥) → placeOk w h c r ≡ false
+  place-false k =
+      same-test (placeOk w h c r) false (λ t. let p = place-says (T-true _ t) in k (p .0) (p .1) (p .2) (p .3)) (λ t. absurd t)
+
+  pub place-true : w ≤ 1024 → h ≤ 1024 → c < w → r < h → placeOk w h c r ≡ true
+  unfolding placeOk
+  place-true a b d e = rw (le-leb w 1024 a, le-leb h 1024 b, lt-ltb c w d, lt-ltb r h e)
+
 module _ (y u v w h : ℕ) where
   pub sizes-say : sizesOk y u v w h ≡ true → (y ≡ 256 * (w * h)) × (u ≡ 64 * (w * h)) × (v ≡ 64 * (w * h))
   unfolding sizesOk
@@ -31,19 +39,21 @@ module _ (y u v w h : ℕ) where
       let b = both-says (eqb u (64 * (w * h))) (eqb v (64 * (w * h))) (T-true _ (a .1)) in
       (eqb→eq _ _ (a .0), eqb→eq _ _ (b .0), eqb→eq _ _ (b .1))
 
-  pub sizes-false : (y ≡ 256 * (w * h) → u ≡ 64 * (w * h) → ⊥) → false ≡ sizesOk y u v w h
-  unfolding sizesOk
+  pub sizes-false : (y ≡ 256 * (w * h) → u ≡ 64 * (w * h) → v ≡ 64 * (w * h) → ⊥) → sizesOk y u v w h ≡ false
   sizes-false k =
-      both-false (eqb y (256 * (w * h))) (both (eqb u (64 * (w * h))) (eqb v (64 * (w * h))))
-      (λ a t. k (eqb→eq _ _ a) (eqb→eq _ _ (both-says (eqb u (64 * (w * h))) (eqb v (64 * (w * h))) (T-true _ t) .0)))
+      same-test (sizesOk y u v w h) false (λ t. let p = sizes-say (T-true _ t) in k (p .0) (p .1) (p .2)) (λ t. absurd t)
+
+  pub sizes-true : y ≡ 256 * (w * h) → u ≡ 64 * (w * h) → v ≡ 64 * (w * h) → sizesOk y u v w h ≡ true
+  unfolding sizesOk
+  sizes-true p q t = rw (eq-eqb y (256 * (w * h)) p, eq-eqb u (64 * (w * h)) q, eq-eqb v (64 * (w * h)) t)
 
   -- the macroblocks are counted by y: their number is w h, or one of the lengths is wrong
   module _ (n : ℕ) (m : n ≡ y / 256) where
-    pub sizes-miscount : eqb n (w * h) ≡ false → false ≡ sizesOk y u v w h
-    sizes-miscount e = sizes-false (λ p q. eqb-false n (w * h) e (omega arith))
+    pub sizes-miscount : eqb n (w * h) ≡ false → sizesOk y u v w h ≡ false
+    sizes-miscount e = sizes-false (λ p q t. eqb-false n (w * h) e (omega arith))
 
-    pub sizes-other : eqb n (w * h) ≡ true → (u ≡ 64 * n → ⊥) → false ≡ sizesOk y u v w h
-    sizes-other e k = let t : n ≡ w * h = eqb-true n (w * h) e in sizes-false (λ p q. k (omega arith))
+    pub sizes-other : eqb n (w * h) ≡ true → (u ≡ 64 * n → ⊥) → sizesOk y u v w h ≡ false
+    sizes-other e k = let t : n ≡ w * h = eqb-true n (w * h) e in sizes-false (λ p q s. k (omega arith))
 
     pub sizes-last : eqb n (w * h) ≡ true → y % 256 ≡ 0 → u ≡ 64 * n → eqb v (64 * n) ≡ sizesOk y u v w h
     unfolding sizesOk

@@ -1,11 +1,16 @@
 // A row's part of a plane: the part of the lent plane itself, where the plane has it.
 ghost use mathlib.Core.Path.{_≡_};
+ghost use lib.ListN.{length};
 ghost use Rattle.rfc6386.specs.Picture.{given, rowPart};
+ghost use Rattle.gathering.specs.Answers.{partStart};
 
 // The `count` pixels from row `row` and column `column` on, a part of the lent plane itself; where the row or the plane
-// does not have them, an empty part at the plane's start.
+// does not have them, an empty part at the plane's start. The promise says both: the bytes, and where they lie.
 pub fn row_part(plane: &[u8], stride: usize, row: usize, column: usize, count: usize) -> &[u8]
-    ensures { λ r. ⌜ now r ≡ rowPart (now (plane .entry)) stride row column count ⌝ }
+    ensures { λ r. ⌜
+        (now r ≡ rowPart (now (plane .entry)) stride row column count)
+        × (r .ptr ≡ partStart (length (now (plane .entry))) stride row column count (plane .entry .ptr))
+        ⌝ }
 {
     if part_given(plane.len(), stride, row, column, count) {
         let at = row * stride + column;

@@ -15,7 +15,7 @@ copy-requires : tie.Need-copy-requires
 copy-requires c κs =
     let t = c .before .before in
     let b = t .before .before .before .before .pre in
-    upper-fits (b .0) (t .before .if1 .taken) _ _ (omega arith) (omega arith) _ _ (b .1) (c .before .row-part .ensures)
+    upper-fits (b .0) (t .before .if1 .taken) _ _ (omega arith) (omega arith) _ _ (b .1) (c .before .row-part .ensures .0)
 
 returns : tie.Need-returns
 unfolding aboveRightOf
@@ -24,7 +24,7 @@ returns c =
     let t = e .before in
     let b = t .before .before .before .before .pre in
     rw (lt-ltb _ _ (t .before .if1 .taken), lt-ltb _ _ (t .if2 .taken))
-    (upper-copied (b .0) (t .before .if1 .taken) _ _ (omega arith) (omega arith) _ _ (b .1) (e .row-part .ensures) _ (c .before .before .copy .ensures))
+    (upper-copied (b .0) (t .before .if1 .taken) _ _ (omega arith) (omega arith) _ _ (b .1) (e .row-part .ensures .0) _ (c .before .before .copy .ensures))
 
 returns-2 : tie.Need-returns-2
 unfolding aboveRightOf

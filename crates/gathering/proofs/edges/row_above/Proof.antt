@@ -14,7 +14,7 @@ copy-requires : tie.Need-copy-requires
 copy-requires c κs =
     let t = c .before .before in
     let b = t .before .before .before .pre in
-    upper-fits (b .0) (t .if1 .taken) _ _ (b .0 .some) (bounds (b .0) .column) _ _ (b .1) (c .before .row-part .ensures)
+    upper-fits (b .0) (t .if1 .taken) _ _ (b .0 .some) (bounds (b .0) .column) _ _ (b .1) (c .before .row-part .ensures .0)
 
 returns : tie.Need-returns
 unfolding aboveOf
@@ -23,7 +23,7 @@ returns c =
     let t = e .before in
     let b = t .before .before .before .pre in
     rw (lt-ltb _ _ (t .if1 .taken))
-    (upper-copied (b .0) (t .if1 .taken) _ _ (b .0 .some) (bounds (b .0) .column) _ _ (b .1) (e .row-part .ensures) _ (c .before .before .copy .ensures))
+    (upper-copied (b .0) (t .if1 .taken) _ _ (b .0 .some) (bounds (b .0) .column) _ _ (b .1) (e .row-part .ensures .0) _ (c .before .before .copy .ensures))
 
 returns-2 : tie.Need-returns-2
 unfolding aboveOf

@@ -8,13 +8,13 @@ use Rattle.gathering.proofs.limits.sizes_ok.Statement.{statement}
 use Rattle.gathering.proofs.limits.sizes_ok.Tie as tie
 
 returns : tie.Need-returns
-returns c = sizes-false _ _ _ _ _ (λ p q. omega arith)
+returns c = sym (sizes-false _ _ _ _ _ (λ p q t. omega arith))
 
 returns-2 : tie.Need-returns-2
-returns-2 c = sizes-miscount _ _ _ _ _ _ refl (sym (c .before .is-product .ensures) ∙ not-true _ (c .if2 .taken))
+returns-2 c = sym (sizes-miscount _ _ _ _ _ _ refl (sym (c .before .is-product .ensures) ∙ not-true _ (c .if2 .taken)))
 
 returns-3 : tie.Need-returns-3
-returns-3 c = sizes-other _ _ _ _ _ _ refl (sym (c .before .before .is-product .ensures) ∙ not-false _ (c .before .if2 .left)) (c .if3 .taken)
+returns-3 c = sym (sizes-other _ _ _ _ _ _ refl (sym (c .before .before .is-product .ensures) ∙ not-false _ (c .before .if2 .left)) (c .if3 .taken))
 
 returns-4 : tie.Need-returns-4
 returns-4 c =

@@ -7,6 +7,7 @@ use denote.Ref.{now}
 use lib.ListN.{length}
 use borrow.Author.Needs.{needs}
 use Rattle.rfc6386.specs.Picture.{rowPart}
+use Rattle.gathering.specs.Answers.{partStart}
 use Rattle.gathering.proofs.Given.{given-says}
 use Rattle.gathering.proofs.part.row_part.Statement.{statement}
 use Rattle.gathering.proofs.part.row_part.Tie as tie
@@ -27,12 +28,16 @@ part-result-end : tie.Need-part-result-end
 part-result-end c = omega (arith, room c)
 
 returns : tie.Need-returns
-unfolding rowPart
-returns c = rw (sym (c .before .before .part-given .ensures) ∙ c .before .if1 .taken, add-sub-cancel-left)
+unfolding rowPart partStart
+returns c =
+    let e = sym (c .before .before .part-given .ensures) ∙ c .before .if1 .taken in
+    (rw (e, add-sub-cancel-left), rw e)
 
 returns-2 : tie.Need-returns-2
-unfolding rowPart
-returns-2 c = rw (sym (c .before .before .part-given .ensures) ∙ c .before .if1 .left)
+unfolding rowPart partStart
+returns-2 c =
+    let e = sym (c .before .before .part-given .ensures) ∙ c .before .if1 .left in
+    (rw e, rw e)
 
 pub row-part-spec : {M : Type 1} → statement M
 row-part-spec =

@@ -1,16 +1,15 @@
--- A macroblock that lies in its plane: the bounds that its edges keep to, over the side n, and the row above and the four pixels right of it
--- as the parts of the plane that the code copies.
+-- A macroblock that lies in its plane: the bounds that its edges keep to, over the side n, and that the code's copies of a part of the row
+-- above and of the left column find all their pixels.
 -- Assumes nothing.
 use Prim.Native.Nat.{ℕ, suc, _+_, _-_, _*_, _<_, _≤_}
-use mathlib.Core.Path.{_≡_, sym, ap, _∙_}
+use mathlib.Core.Path.{_≡_}
 use mathlib.Core.List.{List}
 use native.Mathlib.Nat.{mul-le-mul-left, mul-le-mul-right, mul-le-mul, mul-suc, suc-mul, mul-one, one-mul, add-mul, le-refl}
 use native.Mathlib.Omega.{arith}
 use lib.ListN.{length, getD, take, drop, replicate, length-replicate}
 use lib.Seq.{take-take}
-use borrow.Author.Tests.{lt-ltb}
 use Rattle.lists.specs.Lists.{table}
-use Rattle.rfc6386.specs.Picture.{rowPart, aboveOf, aboveRightOf}
+use Rattle.rfc6386.specs.Picture.{rowPart}
 use Rattle.gathering.specs.Place.{Placed}
 use Rattle.gathering.proofs.Given.{part-is, part-length}
 
@@ -52,7 +51,8 @@ module _ {n : ℕ} {l : List ℕ} {w r c : ℕ} (p : Placed n l w r c) where
   left h = let m : 1 * 1 ≤ n * c = mul-le-mul (p .some) h in record { bounds = bounds; side = omega arith }
 
   -- the k pixels of the row before the macroblock, from column d on: the part of the plane that they are, copied into k zero bytes
-  module _ (h : 0 < r) (d k : ℕ) (s : 1 ≤ k) (t : d + k ≤ n * w) (xs part : List ℕ) (z : xs ≡ replicate k 0) (e : part ≡ rowPart l (n * w) (n * r - 1) d k) where
+  module _ (h : 0 < r) (d k : ℕ) (s : 1 ≤ k) (t : d + k ≤ n * w)
+      (xs part : List ℕ) (z : xs ≡ replicate k 0) (e : part ≡ rowPart l (n * w) (n * r - 1) d k) where
     room : (n * r - 1) * (n * w) + d + k ≤ length l
     room = let a = above h in omega arith
 
@@ -69,5 +69,6 @@ module _ {n : ℕ} {l : List ℕ} {w r c : ℕ} (p : Placed n l w r c) where
     pub column-room : 0 < c → (1 ≤ n * w) × (n * r * (n * w) + (n * c - 1) + length xs * (n * w) < length l + n * w)
     column-room h = rw (z, length-replicate) (let a = left h in (omega arith, omega arith))
 
-    pub column-drawn : (at : ℕ) (ys : List ℕ) → ys ≡ table (length xs) (λ i. getD l (at + i * (n * w)) 0) → ys ≡ table n (λ i. getD l (at + i * (n * w)) 0)
+    pub column-drawn : (at : ℕ) (ys : List ℕ) → ys ≡ table (length xs) (λ i. getD l (at + i * (n * w)) 0)
+        → ys ≡ table n (λ i. getD l (at + i * (n * w)) 0)
     column-drawn at ys e = rw (z, length-replicate) at e

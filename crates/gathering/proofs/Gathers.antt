@@ -53,17 +53,17 @@ module _ (y u v : List ℕ) (w h c r : ℕ) (g : Gathered) (e : g ≡ gathered y
 
       -- ---- the edges that each plane has, by the law over the side
       pub y-edges : (let n = g .neighbors in
-          Around 16 y w r c (n .«y_topleft») (n .«y_topleft_there») (n .«y_above») (n .«y_above_there») (n .«y_left») (n .«y_left_there»))
+          Around 16 y w r c (n .«y_topleft») (n .«y_above») (n .«y_left») (n .«y_topleft_there») (n .«y_above_there») (n .«y_left_there»))
       unfolding neighborsOf
       y-edges = rw n-is (around (placed 16 y w h c r (omega arith) (p .column) (p .row) (q .y-plane)))
 
       pub u-edges : (let n = g .neighbors in
-          Around 8 u w r c (n .«u_topleft») (n .«u_topleft_there») (n .«u_above») (n .«u_above_there») (n .«u_left») (n .«u_left_there»))
+          Around 8 u w r c (n .«u_topleft») (n .«u_above») (n .«u_left») (n .«u_topleft_there») (n .«u_above_there») (n .«u_left_there»))
       unfolding neighborsOf
       u-edges = rw n-is (around (placed 8 u w h c r (omega arith) (p .column) (p .row) (q .u-plane)))
 
       pub v-edges : (let n = g .neighbors in
-          Around 8 v w r c (n .«v_topleft») (n .«v_topleft_there») (n .«v_above») (n .«v_above_there») (n .«v_left») (n .«v_left_there»))
+          Around 8 v w r c (n .«v_topleft») (n .«v_above») (n .«v_left») (n .«v_topleft_there») (n .«v_above_there») (n .«v_left_there»))
       unfolding neighborsOf
       v-edges = rw n-is (around (placed 8 v w h c r (omega arith) (p .column) (p .row) (q .v-plane)))
 
@@ -73,6 +73,6 @@ module _ (y u v : List ℕ) (w h c r : ℕ) (g : Gathered) (e : g ≡ gathered y
       above-right-outside z = rw n-is (right-outside y w r c z)
 
       pub above-right-beside : 0 < r → c + 1 < w
-          → There y 4 (λ i. (16 * r - 1) * (16 * w) + (16 * c + 16 + i)) (g .neighbors .«y_above_right_there») (g .neighbors .«y_above_right»)
+          → There y 4 (λ i. (16 * r - 1) * (16 * w) + (16 * c + 16) + i) (g .neighbors .«y_above_right_there») (g .neighbors .«y_above_right»)
       unfolding neighborsOf
       above-right-beside z t = rw n-is (right-beside y w r c (placed 16 y w h c r (omega arith) (p .column) (p .row) (q .y-plane)) z t)

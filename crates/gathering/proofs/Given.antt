@@ -3,16 +3,24 @@
 -- Assumes nothing.
 use Prim.Native.Nat.{ℕ, _+_, _-_, _*_, _/_, _<_, _≤_}
 use mathlib.Core.Bool.{Bool, true, false}
-use mathlib.Core.Path.{_≡_, sym, _∙_}
+use mathlib.Core.Path.{_≡_}
 use mathlib.Core.List.{List, []}
 use native.Mathlib.Nat.{le-div-iff-mul-le}
 use native.Mathlib.Omega.{arith}
-use lib.Dec.{T, leb, leb→le, le→leb}
+use lib.Dec.{leb, leb→le, le→leb}
 use lib.ListN.{length, getD, take, drop, length-drop}
 use lib.Seq.{length-take-le, getD-take, getD-drop}
 use Rattle.lists.specs.Lists.{both}
 use Rattle.lists.proofs.Tests.{both-false, both-true, both-says, T-true, true-T}
 use Rattle.rfc6386.specs.Picture.{given, rowPart}
+
+-- the k elements from a place on
+module _ (l : List ℕ) (at k : ℕ) (h : at + k ≤ length l) where
+  pub piece-length : length (take k (drop at l)) ≡ k
+  piece-length = length-take-le k (drop at l) (simp length-drop (omega arith))
+
+  pub piece-at : (i : ℕ) → i < k → getD (take k (drop at l)) i 0 ≡ getD l (at + i) 0
+  piece-at i t = rw (getD-take, getD-drop)
 
 module _ (n s r c k : ℕ) where
   abbrev A : Bool
@@ -62,10 +70,10 @@ module _ (l : List ℕ) (s r c k : ℕ) (p : 1 ≤ k) (q : c + k ≤ s) (t : r *
   part-is = rw (← is-given (length l) s r c k p q t)
 
   pub part-length : length (rowPart l s r c k) ≡ k
-  part-length = rw part-is (length-take-le k (drop (r * s + c) l) (simp length-drop (omega arith)))
+  part-length = rw part-is (piece-length l (r * s + c) k t)
 
   pub part-at : (i : ℕ) → i < k → getD (rowPart l s r c k) i 0 ≡ getD l (r * s + c + i) 0
-  part-at i h = rw (part-is, getD-take, getD-drop)
+  part-at i h = rw part-is (piece-at l (r * s + c) k t i h)
 
 -- where one of them does not, it is empty
 pub part-empty : (l : List ℕ) (s r c k : ℕ) → (1 ≤ k → c + k ≤ s → r * s + c + k ≤ length l → ⊥) → rowPart l s r c k ≡ []

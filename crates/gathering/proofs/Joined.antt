@@ -3,7 +3,6 @@ use Prim.Native.Nat.{ℕ}
 use mathlib.Core.Bool.{Bool}
 use mathlib.Core.Path.{_≡_}
 use mathlib.Core.List.{List}
-use lib.Dec.{ltb}
 use Rattle.macroblock.specs.declared.neighbors.MbNeighbors.{MbNeighbors}
 use Rattle.rfc6386.specs.Picture.{neighborsOf, aboveRightOf, aboveThere, leftThere, topLeftThere, aboveRightThere}
 use Rattle.gathering.specs.Place.{Edges}

@@ -6,11 +6,10 @@ use mathlib.Core.Bool.{Bool, true, false}
 use mathlib.Core.Path.{_≡_, refl, sym, ap, _∙_}
 use mathlib.Core.Logic.{_⊎_, inl, inr, ⊎-elim}
 use mathlib.Core.List.{List}
-use native.Mathlib.Nat.{add-mul, add-assoc}
+use native.Mathlib.Nat.{add-mul}
 use native.Mathlib.Omega.{arith}
 use lib.Dec.{ltb, ltb→lt}
-use lib.ListN.{length, getD, take, drop, replicate, length-drop}
-use lib.Seq.{length-take-le, getD-take, getD-drop}
+use lib.ListN.{length, getD, take, drop, replicate}
 use borrow.Author.Tests.{lt-ltb, le-ltb}
 use Rattle.lists.specs.Lists.{both}
 use Rattle.lists.proofs.Tests.{both-false}
@@ -18,6 +17,7 @@ use Rattle.lists.proofs.Table.{table-length, table-at}
 use Rattle.lists.proofs.Rows.{row-within}
 use Rattle.rfc6386.specs.Picture.{aboveThere, leftThere, topLeftThere, aboveRightThere, aboveOf, leftOf, topLeftOf, aboveRightOf}
 use Rattle.gathering.specs.Place.{Placed}
+use Rattle.gathering.proofs.Given.{piece-length, piece-at}
 use Rattle.gathering.proofs.Bounds.{above, left}
 
 -- an edge and its mark: absent, k bytes 0
@@ -32,28 +32,19 @@ pub record There (l : List ℕ) (k : ℕ) (at : ℕ → ℕ) (mark : Bool) (byte
   pub inside : (i : ℕ) → i < k → at i < length l
   pub pixels : (i : ℕ) → i < k → getD bytes i 0 ≡ getD l (at i) 0
 
--- the three edges that each plane has; a row of the plane has n w pixels
-pub record Around (n : ℕ) (l : List ℕ) (w r c : ℕ) (corner : ℕ) (corner-there : Bool) (row : List ℕ) (row-there : Bool) (column : List ℕ) (column-there : Bool) : Type 0 where
-  pub above-outside : r ≡ 0 → Absent n row-there row
-  pub above-beside : 0 < r → There l n (λ i. (n * r - 1) * (n * w) + (n * c + i)) row-there row
-  pub left-outside : c ≡ 0 → Absent n column-there column
-  pub left-beside : 0 < c → There l n (λ i. (n * r + i) * (n * w) + (n * c - 1)) column-there column
-  pub corner-outside : (r ≡ 0) ⊎ (c ≡ 0) → (corner-there ≡ false) × (corner ≡ 0)
-  pub corner-beside : 0 < r → 0 < c → (corner-there ≡ true) × (corner ≡ getD l ((n * r - 1) * (n * w) + (n * c - 1)) 0)
+-- the three edges that each plane has: the top-left pixel p, the row above and the left column. A row of the plane has n w pixels
+pub record Around (n : ℕ) (l : List ℕ) (w r c p : ℕ) (above left : List ℕ) (p-mark above-mark left-mark : Bool) : Type 0 where
+  pub above-outside : r ≡ 0 → Absent n above-mark above
+  pub above-beside : 0 < r → There l n (λ i. (n * r - 1) * (n * w) + n * c + i) above-mark above
+  pub left-outside : c ≡ 0 → Absent n left-mark left
+  pub left-beside : 0 < c → There l n (λ i. (n * r + i) * (n * w) + (n * c - 1)) left-mark left
+  pub top-left-outside : (r ≡ 0) ⊎ (c ≡ 0) → (p-mark ≡ false) × (p ≡ 0)
+  pub top-left-beside : 0 < r → 0 < c → (p-mark ≡ true) × (p ≡ getD l ((n * r - 1) * (n * w) + (n * c - 1)) 0)
 
--- ---- the k pixels of a row of s, from column d on
-module _ (l : List ℕ) (s row d k : ℕ) (h : row * s + d + k ≤ length l) where
-  abbrev part : List ℕ
-  part = take k (drop (row * s + d) l)
-
-  part-there : There l k (λ i. row * s + (d + i)) true part
-  part-there =
-      record {
-        on = refl;
-        count = length-take-le k (drop (row * s + d) l) (simp length-drop (omega arith));
-        inside = λ i t. omega arith;
-        pixels = λ i t. rw (getD-take, getD-drop, add-assoc);
-      }
+-- the k pixels from a place on
+piece-there : (l : List ℕ) (at k : ℕ) → at + k ≤ length l → There l k (λ i. at + i) true (take k (drop at l))
+piece-there l at k h =
+    record { on = refl; count = piece-length l at k h; inside = λ i t. omega arith; pixels = piece-at l at k h }
 
 -- a mark of two tests is off where one of them fails
 unmarked : (a b d e : ℕ) → (b ≤ a) ⊎ (e ≤ d) → both (ltb a b) (ltb d e) ≡ false
@@ -75,16 +66,16 @@ module _ {n : ℕ} {l : List ℕ} {w r c : ℕ} (p : Placed n l w r c) where
         pixels = λ i t. rw f (table-at n _ i 0 t ∙ ap (λ (m : ℕ). getD l m 0) (omega (arith, add-mul (n * r) i (n * w))));
       }
 
-  pub around : Around n l w r c (topLeftOf n l w r c) (topLeftThere r c) (aboveOf n l w r c) (aboveThere r c) (leftOf n l w r c) (leftThere r c)
+  pub around : Around n l w r c (topLeftOf n l w r c) (aboveOf n l w r c) (leftOf n l w r c) (topLeftThere r c) (aboveThere r c) (leftThere r c)
   unfolding topLeftOf aboveOf leftOf
   around =
       record {
         above-outside = λ z. let f = le-ltb 0 r (omega arith) in record { off = f; zeros = rw f };
-        above-beside = λ h. let a = above p h in rw (lt-ltb 0 r h) (part-there l (n * w) (n * r - 1) (n * c) n (omega arith));
+        above-beside = λ h. let a = above p h in rw (lt-ltb 0 r h) (piece-there l ((n * r - 1) * (n * w) + n * c) n (omega arith));
         left-outside = λ z. let f = le-ltb 0 c (omega arith) in record { off = f; zeros = rw f };
         left-beside = left-column;
-        corner-outside = λ z. let f = unmarked 0 r 0 c (⊎-elim (λ q. inl (omega arith)) (λ q. inr (omega arith)) z) in (f, rw f);
-        corner-beside = λ h g. (rw (lt-ltb 0 r h, lt-ltb 0 c g), rw (lt-ltb 0 r h, lt-ltb 0 c g));
+        top-left-outside = λ z. let f = unmarked 0 r 0 c (⊎-elim (λ q. inl (omega arith)) (λ q. inr (omega arith)) z) in (f, rw f);
+        top-left-beside = λ h g. (rw (lt-ltb 0 r h, lt-ltb 0 c g), rw (lt-ltb 0 r h, lt-ltb 0 c g));
       }
 
 -- ---- the four luma pixels right of the row above
@@ -96,8 +87,8 @@ module _ (l : List ℕ) (w r c : ℕ) where
       record { off = f; zeros = rw f }
 
   pub right-beside : Placed 16 l w r c → 0 < r → c + 1 < w
-      → There l 4 (λ i. (16 * r - 1) * (16 * w) + (16 * c + 16 + i)) (aboveRightThere w r c) (aboveRightOf l w r c)
+      → There l 4 (λ i. (16 * r - 1) * (16 * w) + (16 * c + 16) + i) (aboveRightThere w r c) (aboveRightOf l w r c)
   unfolding aboveRightOf
   right-beside p h g =
       let a = above p h in
-      rw (lt-ltb 0 r h, lt-ltb (c + 1) w g) (part-there l (16 * w) (16 * r - 1) (16 * c + 16) 4 (omega arith))
+      rw (lt-ltb 0 r h, lt-ltb (c + 1) w g) (piece-there l ((16 * r - 1) * (16 * w) + (16 * c + 16)) 4 (omega arith))

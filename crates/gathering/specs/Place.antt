@@ -1,10 +1,11 @@
--- Names for gathering's private steps. A macroblock of n pixels a side lies in the plane l, whose rows are n w pixels long: in column c and row r, counted in macroblocks.
+-- Names for gathering's private steps.
 use Prim.Native.Nat.{ℕ, _+_, _*_, _<_, _≤_}
 use mathlib.Core.List.{List}
 use mathlib.Core.Path.{_≡_}
 use lib.ListN.{length}
 use Rattle.rfc6386.specs.Picture.{topLeftOf, aboveOf, leftOf}
 
+-- a macroblock of n pixels a side lies in the plane l, whose rows have n w pixels, in column c and row r, counted in macroblocks
 pub record Placed (n : ℕ) (l : List ℕ) (w r c : ℕ) : Type 0 where
   pub some : 1 ≤ n
   pub across : c < w

@@ -4,7 +4,7 @@ use native.Mathlib.Omega.{arith}
 use borrow.Author.Needs.{needs}
 use borrow.Author.Tests.{lt-ltb, le-ltb}
 use Rattle.rfc6386.specs.Picture.{aboveRightOf}
-use Rattle.gathering.proofs.Bounds.{Above, bounds, above, upper-fits, upper-copied}
+use Rattle.gathering.proofs.Bounds.{Above, above, upper-fits, upper-copied}
 use Rattle.gathering.proofs.edges.above_right.Statement.{statement}
 use Rattle.gathering.proofs.edges.above_right.Tie as tie
 

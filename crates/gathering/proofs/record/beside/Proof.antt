@@ -10,7 +10,8 @@ returns c =
     let v = c .before .before .before .before in
     let u = v .before .before .before in
     let y = u .before .before .before .before in
-    record-is (y .luma-edges .ensures .0) (y .luma-edges .ensures .1) (u .chroma-edges .ensures) (v .chroma-edges2 .ensures) (c .before .both .ensures) (c .both2 .ensures)
+    let e = y .luma-edges .ensures in
+    record-is (e .0) (e .1) (u .chroma-edges .ensures) (v .chroma-edges2 .ensures) (c .before .both .ensures) (c .both2 .ensures)
 
 pub beside-spec : {M : Type 1} → statement M
 beside-spec =

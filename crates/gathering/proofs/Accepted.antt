@@ -1,4 +1,4 @@
--- What the tests of the size, the place and the planes' lengths say, and that a macroblock of such a picture lies in each plane.
+-- What the tests of the size and the place (`Within`) and of the planes' lengths (`Lengths`) say, and that a macroblock of such a picture lies in each plane.
 -- Assumes nothing.
 use Prim.Native.Nat.{ℕ, suc, _+_, _*_, _/_, _%_, _<_, _≤_}
 use mathlib.Core.Bool.{true, false}
@@ -14,46 +14,55 @@ use Rattle.lists.proofs.Tests.{both-says, T-true, same-test}
 use Rattle.rfc6386.specs.Picture.{placeOk, sizesOk}
 use Rattle.gathering.specs.Place.{Placed}
 
+pub record Within (w h c r : ℕ) : Type 0 where
+  pub width : w ≤ 1024
+  pub height : h ≤ 1024
+  pub column : c < w
+  pub row : r < h
+
+pub record Lengths (y u v w h : ℕ) : Type 0 where
+  pub y-plane : y ≡ 256 * (w * h)
+  pub u-plane : u ≡ 64 * (w * h)
+  pub v-plane : v ≡ 64 * (w * h)
+
 module _ (w h c r : ℕ) where
-  pub place-says : placeOk w h c r ≡ true → (w ≤ 1024) × (h ≤ 1024) × (c < w) × (r < h)
+  pub place-says : placeOk w h c r ≡ true → Within w h c r
   unfolding placeOk
   place-says e =
       let a = both-says (leb w 1024) (both (leb h 1024) (both (ltb c w) (ltb r h))) e in
       let b = both-says (leb h 1024) (both (ltb c w) (ltb r h)) (T-true _ (a .1)) in
       let d = both-says (ltb c w) (ltb r h) (T-true _ (b .1)) in
-      (leb→le _ _ (a .0), leb→le _ _ (b .0), ltb→lt _ _ (d .0), ltb→lt _ _ (d .1))
+      record { width = leb→le _ _ (a .0); height = leb→le _ _ (b .0); column = ltb→lt _ _ (d .0); row = ltb→lt _ _ (d .1) }
 
-  pub place-false : (w ≤ 1024 → h ≤ 1024 → c < w → r < h → ⊥) → placeOk w h c r ≡ false
-  place-false k =
-      same-test (placeOk w h c r) false (λ t. let p = place-says (T-true _ t) in k (p .0) (p .1) (p .2) (p .3)) (λ t. absurd t)
+  pub place-false : (Within w h c r → ⊥) → placeOk w h c r ≡ false
+  place-false k = same-test (placeOk w h c r) false (λ t. k (place-says (T-true _ t))) (λ t. absurd t)
 
-  pub place-true : w ≤ 1024 → h ≤ 1024 → c < w → r < h → placeOk w h c r ≡ true
+  pub place-true : Within w h c r → placeOk w h c r ≡ true
   unfolding placeOk
-  place-true a b d e = rw (le-leb w 1024 a, le-leb h 1024 b, lt-ltb c w d, lt-ltb r h e)
+  place-true p = rw (le-leb w 1024 (p .width), le-leb h 1024 (p .height), lt-ltb c w (p .column), lt-ltb r h (p .row))
 
 module _ (y u v w h : ℕ) where
-  pub sizes-say : sizesOk y u v w h ≡ true → (y ≡ 256 * (w * h)) × (u ≡ 64 * (w * h)) × (v ≡ 64 * (w * h))
+  pub sizes-say : sizesOk y u v w h ≡ true → Lengths y u v w h
   unfolding sizesOk
   sizes-say e =
       let a = both-says (eqb y (256 * (w * h))) (both (eqb u (64 * (w * h))) (eqb v (64 * (w * h)))) e in
       let b = both-says (eqb u (64 * (w * h))) (eqb v (64 * (w * h))) (T-true _ (a .1)) in
-      (eqb→eq _ _ (a .0), eqb→eq _ _ (b .0), eqb→eq _ _ (b .1))
+      record { y-plane = eqb→eq _ _ (a .0); u-plane = eqb→eq _ _ (b .0); v-plane = eqb→eq _ _ (b .1) }
 
-  pub sizes-false : (y ≡ 256 * (w * h) → u ≡ 64 * (w * h) → v ≡ 64 * (w * h) → ⊥) → sizesOk y u v w h ≡ false
-  sizes-false k =
-      same-test (sizesOk y u v w h) false (λ t. let p = sizes-say (T-true _ t) in k (p .0) (p .1) (p .2)) (λ t. absurd t)
+  pub sizes-false : (Lengths y u v w h → ⊥) → sizesOk y u v w h ≡ false
+  sizes-false k = same-test (sizesOk y u v w h) false (λ t. k (sizes-say (T-true _ t))) (λ t. absurd t)
 
-  pub sizes-true : y ≡ 256 * (w * h) → u ≡ 64 * (w * h) → v ≡ 64 * (w * h) → sizesOk y u v w h ≡ true
+  pub sizes-true : Lengths y u v w h → sizesOk y u v w h ≡ true
   unfolding sizesOk
-  sizes-true p q t = rw (eq-eqb y (256 * (w * h)) p, eq-eqb u (64 * (w * h)) q, eq-eqb v (64 * (w * h)) t)
+  sizes-true p = rw (eq-eqb y (256 * (w * h)) (p .y-plane), eq-eqb u (64 * (w * h)) (p .u-plane), eq-eqb v (64 * (w * h)) (p .v-plane))
 
   -- the macroblocks are counted by y: their number is w h, or one of the lengths is wrong
   module _ (n : ℕ) (m : n ≡ y / 256) where
     pub sizes-miscount : eqb n (w * h) ≡ false → sizesOk y u v w h ≡ false
-    sizes-miscount e = sizes-false (λ p q t. eqb-false n (w * h) e (omega arith))
+    sizes-miscount e = sizes-false (λ p. eqb-false n (w * h) e (omega arith))
 
     pub sizes-other : eqb n (w * h) ≡ true → (u ≡ 64 * n → ⊥) → sizesOk y u v w h ≡ false
-    sizes-other e k = let t : n ≡ w * h = eqb-true n (w * h) e in sizes-false (λ p q s. k (omega arith))
+    sizes-other e k = let t : n ≡ w * h = eqb-true n (w * h) e in sizes-false (λ p. k (omega arith))
 
     pub sizes-last : eqb n (w * h) ≡ true → y % 256 ≡ 0 → u ≡ 64 * n → eqb v (64 * n) ≡ sizesOk y u v w h
     unfolding sizesOk

@@ -12,38 +12,26 @@ use Rattle.macroblock.specs.Reply.{done, wrongLength, outsidePicture}
 use Rattle.rfc6386.specs.Picture.{neighborsOf, placeOk}
 use Rattle.gathering.specs.declared.Gathered.{Gathered}
 use Rattle.gathering.specs.Answers.{gathered, refused}
-use Rattle.gathering.proofs.Accepted.{place-true, place-false, sizes-true, sizes-false, placed}
+use Rattle.gathering.proofs.Accepted.{Within, Lengths, place-true, place-false, sizes-true, sizes-false, placed}
 use Rattle.gathering.proofs.Pixels.{Absent, There, Around, around, right-outside, right-beside}
 
-pub record Place (w h c r : ℕ) : Type 0 where
-  pub width : w ≤ 1024
-  pub height : h ≤ 1024
-  pub column : c < w
-  pub row : r < h
-
-pub record Lengths (y u v w h : ℕ) : Type 0 where
-  pub y-plane : y ≡ 256 * (w * h)
-  pub u-plane : u ≡ 64 * (w * h)
-  pub v-plane : v ≡ 64 * (w * h)
-
 module _ (y u v : List ℕ) (w h c r : ℕ) (g : Gathered) (e : g ≡ gathered y u v w h c r) where
-  pub place-refused : (Place w h c r → ⊥) → g ≡ refused outsidePicture
+  pub place-refused : (Within w h c r → ⊥) → g ≡ refused outsidePicture
   unfolding gathered
-  place-refused k = e ∙ rw (place-false w h c r (λ a b d f. k (record { width = a; height = b; column = d; row = f })))
+  place-refused k = e ∙ rw (place-false w h c r k)
 
-  module _ (p : Place w h c r) where
+  module _ (p : Within w h c r) where
     here : placeOk w h c r ≡ true
-    here = place-true w h c r (p .width) (p .height) (p .column) (p .row)
+    here = place-true w h c r p
 
     pub lengths-refused : (Lengths (length y) (length u) (length v) w h → ⊥) → g ≡ refused wrongLength
     unfolding gathered
-    lengths-refused k =
-        e ∙ rw (here, sizes-false (length y) (length u) (length v) w h (λ a b d. k (record { y-plane = a; u-plane = b; v-plane = d })))
+    lengths-refused k = e ∙ rw (here, sizes-false (length y) (length u) (length v) w h k)
 
     module _ (q : Lengths (length y) (length u) (length v) w h) where
       pub accepted : g ≡ record { reply = done; neighbors = neighborsOf y u v w r c }
       unfolding gathered
-      accepted = e ∙ rw (here, sizes-true (length y) (length u) (length v) w h (q .y-plane) (q .u-plane) (q .v-plane))
+      accepted = e ∙ rw (here, sizes-true (length y) (length u) (length v) w h q)
 
       pub reply-done : g .reply ≡ 0
       reply-done = ap (λ (x : Gathered). x .reply) accepted

@@ -1,6 +1,6 @@
 -- The laws of gathering.
 --     Given         when a row's part is given, and what it then holds
---     Accepted        what the tests of the size, the place and the planes' lengths say
+--     Accepted      what the tests of the size, the place and the planes' lengths say
 --     Bounds        the bounds that the edges of a macroblock keep to in its plane
 --     Joined        the neighbour record, put together from the edges of the planes
 --     Pixels        an edge outside the picture is absent; any other is the pixels beside the macroblock

@@ -13,11 +13,12 @@ use Rattle.gathering.specs.declared.Gathered.{Gathered}
 unfoldable pub partStart : ℕ → ℕ → ℕ → ℕ → ℕ → ℕ × ℕ → ℕ × ℕ
 partStart length stride row col count start = (start .0, pick (given length stride row col count) (row * stride + col) 0 + start .1)
 
--- The answer of a gathering: 7 for a size or a place outside its limits, then 1 for a plane of the wrong length, each with every edge
--- absent; else the neighbours of the macroblock in column c and row r of a picture of w by h macroblocks.
+-- A refusal: its number, and every edge absent.
 abbrev pub refused : ℕ → Gathered
 refused number = record { reply = number; neighbors = absent }
 
+-- The answer of a gathering: 7 for a size or a place outside its limits, then 1 for a plane of the wrong length, each with every edge
+-- absent; else the neighbours of the macroblock in column c and row r of a picture of w by h macroblocks.
 unfoldable pub gathered : List ℕ → List ℕ → List ℕ → ℕ → ℕ → ℕ → ℕ → Gathered
 gathered y u v w h c r =
     pick (placeOk w h c r)

@@ -1,11 +1,12 @@
 // RFC 6386, 12.2 and 12.3: the neighbours of a macroblock, gathered from the finished planes of its picture. A size outside
 // its limits or a place outside the picture is refused first (7), then a plane of the wrong length (1).
 //
-//        top-left | row above           | above-right       row 16 row - 1 of Y
+//        top-left | the row above       | above-right
 //        ---------+---------------------+------------
-//        left     | the macroblock      |
-//        column 16 col - 1
+//        the left | the macroblock      |
+//        column   |                     |
 //
+// In Y the row above is row 16 row - 1 of the plane and the left column is column 16 col - 1; in U and V 8 stands for 16.
 // An edge outside the picture is absent and its bytes are 0; any other is the finished pixels beside the macroblock.
 ghost use mathlib.Core.Path.{_≡_};
 ghost use Rattle.gathering.specs.Answers.{gathered, refused};
@@ -22,6 +23,7 @@ mod record;
 
 pub use part::row_part;
 
+// The neighbours, or the number of the refusal.
 pub struct Gathered {
     pub reply: u32,
     pub neighbors: MbNeighbors,

@@ -1,4 +1,4 @@
-// A row's part of a plane: the part of the lent plane itself, where the plane has it.
+// A row's part of a plane, handed back as a part of the lent plane itself.
 ghost use mathlib.Core.Path.{_≡_};
 ghost use lib.ListN.{length};
 ghost use Rattle.rfc6386.specs.Picture.{given, rowPart};
@@ -20,8 +20,8 @@ pub fn row_part(plane: &[u8], stride: usize, row: usize, column: usize, count: u
     &plane[0..0]
 }
 
-// Whether a plane of `length` bytes has the part. Exact in whole numbers without bound: row * stride is formed nowhere,
-// since it need not fit; the rows that the plane holds are divided out instead.
+// Whether a plane of `length` bytes has the part. Exact in whole numbers without bound: row * stride need not fit a machine
+// word, so the rows that the plane holds after the first are divided out and compared.
 fn part_given(length: usize, stride: usize, row: usize, column: usize, count: usize) -> bool
     ensures { λ r. ⌜ r ≡ given length stride row column count ⌝ }
 {

@@ -37,8 +37,8 @@ pub(crate) fn beside(y: &[u8], u: &[u8], v: &[u8], w: usize, r: usize, c: usize)
     let v_left = ev.left;
     let above = 0 < r;
     let left = 0 < c;
-    let topleft = both(0 < r, 0 < c);
-    let right = both(0 < r, c + 1 < w);
+    let topleft = both(above, left);
+    let right = both(above, c + 1 < w);
     MbNeighbors {
         y_topleft: ey.topleft,
         y_topleft_there: topleft,

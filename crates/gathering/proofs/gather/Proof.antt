@@ -12,9 +12,9 @@ beside-requires c κs =
     let s = c .before .before in
     let a = place-says _ _ _ _ (sym (s .before .place-ok .ensures) ∙ c .before .if1 .taken) in
     let b = sizes-say _ _ _ _ _ (sym (s .sizes-ok .ensures) ∙ c .if2 .taken) in (
-      placed 16 _ _ _ _ _ (omega arith) (a .2) (a .3) (b .0),
-      placed 8 _ _ _ _ _ (omega arith) (a .2) (a .3) (b .1),
-      placed 8 _ _ _ _ _ (omega arith) (a .2) (a .3) (b .2),
+      placed 16 _ _ _ _ _ (omega arith) (a .column) (a .row) (b .y-plane),
+      placed 8 _ _ _ _ _ (omega arith) (a .column) (a .row) (b .u-plane),
+      placed 8 _ _ _ _ _ (omega arith) (a .column) (a .row) (b .v-plane),
     )
 
 returns : tie.Need-returns

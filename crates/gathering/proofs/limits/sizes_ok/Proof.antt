@@ -8,7 +8,7 @@ use Rattle.gathering.proofs.limits.sizes_ok.Statement.{statement}
 use Rattle.gathering.proofs.limits.sizes_ok.Tie as tie
 
 returns : tie.Need-returns
-returns c = sym (sizes-false _ _ _ _ _ (λ p q t. omega arith))
+returns c = sym (sizes-false _ _ _ _ _ (λ p. omega arith))
 
 returns-2 : tie.Need-returns-2
 returns-2 c = sym (sizes-miscount _ _ _ _ _ _ refl (sym (c .before .is-product .ensures) ∙ not-true _ (c .if2 .taken)))

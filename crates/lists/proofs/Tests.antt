@@ -23,3 +23,10 @@ T-true false t = absurd t
 
 pub true-T : {b : Bool} → true ≡ b → T b
 true-T e = subst T e tt
+
+-- two tests that hold together are one
+pub same-test : (a b : Bool) → (T a → T b) → (T b → T a) → a ≡ b
+same-test true true f g = refl
+same-test true false f g = absurd (f tt)
+same-test false true f g = absurd (g tt)
+same-test false false f g = refl

@@ -1,0 +1,94 @@
+-- What the edges of a macroblock that lies in its plane hold, over the side n: outside the picture an edge is absent, its bytes 0; any other
+-- is the finished pixels beside the macroblock, each by its row and column in the plane.
+-- Assumes nothing.
+use Prim.Native.Nat.{ℕ, _+_, _-_, _*_, _<_, _≤_}
+use mathlib.Core.Bool.{Bool, true, false}
+use mathlib.Core.Path.{_≡_, refl, sym, ap, _∙_}
+use mathlib.Core.Logic.{_⊎_, inl, inr, ⊎-elim}
+use mathlib.Core.List.{List}
+use native.Mathlib.Nat.{add-mul}
+use native.Mathlib.Omega.{arith}
+use lib.Dec.{ltb, ltb→lt}
+use lib.ListN.{length, getD, take, drop, replicate}
+use borrow.Author.Tests.{lt-ltb, le-ltb}
+use Rattle.lists.specs.Lists.{both}
+use Rattle.lists.proofs.Tests.{both-false}
+use Rattle.lists.proofs.Table.{table-length, table-at}
+use Rattle.lists.proofs.Rows.{row-within}
+use Rattle.rfc6386.specs.Picture.{aboveThere, leftThere, topLeftThere, aboveRightThere, aboveOf, leftOf, topLeftOf, aboveRightOf}
+use Rattle.gathering.specs.Place.{Placed}
+use Rattle.gathering.proofs.Given.{piece-length, piece-at}
+use Rattle.gathering.proofs.Bounds.{above, left}
+
+-- an edge and its mark: absent, k bytes 0
+pub record Absent (k : ℕ) (mark : Bool) (bytes : List ℕ) : Type 0 where
+  pub off : mark ≡ false
+  pub zeros : bytes ≡ replicate k 0
+
+-- or there, its k bytes the pixels of the plane l at the places `at 0` .. `at (k - 1)`
+pub record There (l : List ℕ) (k : ℕ) (at : ℕ → ℕ) (mark : Bool) (bytes : List ℕ) : Type 0 where
+  pub on : mark ≡ true
+  pub count : length bytes ≡ k
+  pub inside : (i : ℕ) → i < k → at i < length l
+  pub pixels : (i : ℕ) → i < k → getD bytes i 0 ≡ getD l (at i) 0
+
+-- the three edges that each plane has: the top-left pixel p, the row above and the left column. A row of the plane has n w pixels
+pub record Around (n : ℕ) (l : List ℕ) (w r c p : ℕ) (above left : List ℕ) (p-mark above-mark left-mark : Bool) : Type 0 where
+  pub above-outside : r ≡ 0 → Absent n above-mark above
+  pub above-beside : 0 < r → There l n (λ i. (n * r - 1) * (n * w) + n * c + i) above-mark above
+  pub left-outside : c ≡ 0 → Absent n left-mark left
+  pub left-beside : 0 < c → There l n (λ i. (n * r + i) * (n * w) + (n * c - 1)) left-mark left
+  pub top-left-outside : (r ≡ 0) ⊎ (c ≡ 0) → (p-mark ≡ false) × (p ≡ 0)
+  pub top-left-beside : 0 < r → 0 < c → (p-mark ≡ true) × (p ≡ getD l ((n * r - 1) * (n * w) + (n * c - 1)) 0)
+
+-- the k pixels from a place on
+piece-there : (l : List ℕ) (at k : ℕ) → at + k ≤ length l → There l k (λ i. at + i) true (take k (drop at l))
+piece-there l at k h =
+    record { on = refl; count = piece-length l at k h; inside = λ i t. omega arith; pixels = piece-at l at k h }
+
+-- a mark of two tests is off where one of them fails
+unmarked : (a b d e : ℕ) → (b ≤ a) ⊎ (e ≤ d) → both (ltb a b) (ltb d e) ≡ false
+unmarked a b d e h =
+    sym
+    (both-false (ltb a b) (ltb d e)
+    (λ p q. let f = ltb→lt a b p in let g = ltb→lt d e q in ⊎-elim (λ z. omega arith) (λ z. omega arith) h))
+
+module _ {n : ℕ} {l : List ℕ} {w r c : ℕ} (p : Placed n l w r c) where
+  left-column : 0 < c → There l n (λ i. (n * r + i) * (n * w) + (n * c - 1)) (leftThere r c) (leftOf n l w r c)
+  unfolding leftOf
+  left-column h =
+      let f = lt-ltb 0 c h in
+      let a = left p h in
+      record {
+        on = f;
+        count = rw f (table-length n _);
+        inside = λ i t. let m = row-within (n * w) n i t in omega (arith, add-mul (n * r) i (n * w));
+        pixels = λ i t. rw f (table-at n _ i 0 t ∙ ap (λ (m : ℕ). getD l m 0) (omega (arith, add-mul (n * r) i (n * w))));
+      }
+
+  pub around : Around n l w r c (topLeftOf n l w r c) (aboveOf n l w r c) (leftOf n l w r c) (topLeftThere r c) (aboveThere r c) (leftThere r c)
+  unfolding topLeftOf aboveOf leftOf
+  around =
+      record {
+        above-outside = λ z. let f = le-ltb 0 r (omega arith) in record { off = f; zeros = rw f };
+        above-beside = λ h. let a = above p h in rw (lt-ltb 0 r h) (piece-there l ((n * r - 1) * (n * w) + n * c) n (omega arith));
+        left-outside = λ z. let f = le-ltb 0 c (omega arith) in record { off = f; zeros = rw f };
+        left-beside = left-column;
+        top-left-outside = λ z. let f = unmarked 0 r 0 c (⊎-elim (λ q. inl (omega arith)) (λ q. inr (omega arith)) z) in (f, rw f);
+        top-left-beside = λ h g. (rw (lt-ltb 0 r h, lt-ltb 0 c g), rw (lt-ltb 0 r h, lt-ltb 0 c g));
+      }
+
+-- ---- the four luma pixels right of the row above
+module _ (l : List ℕ) (w r c : ℕ) where
+  pub right-outside : (r ≡ 0) ⊎ (c + 1 ≡ w) → Absent 4 (aboveRightThere w r c) (aboveRightOf l w r c)
+  unfolding aboveRightOf
+  right-outside z =
+      let f = unmarked 0 r (c + 1) w (⊎-elim (λ q. inl (omega arith)) (λ q. inr (omega arith)) z) in
+      record { off = f; zeros = rw f }
+
+  pub right-beside : Placed 16 l w r c → 0 < r → c + 1 < w
+      → There l 4 (λ i. (16 * r - 1) * (16 * w) + (16 * c + 16) + i) (aboveRightThere w r c) (aboveRightOf l w r c)
+  unfolding aboveRightOf
+  right-beside p h g =
+      let a = above p h in
+      rw (lt-ltb 0 r h, lt-ltb (c + 1) w g) (piece-there l ((16 * r - 1) * (16 * w) + (16 * c + 16)) 4 (omega arith))

@@ -3,7 +3,7 @@
 --     Table      a list filled from the front, read at a place, equal where the rules agree
 --     Rows       the same for a block that is drawn row by row
 --     Parts      a part of a slice, lent to a call
---     Tests      what a test of several says
+--     Tests      what a test of several says, and a `match` on a number that reaches its `_`
 --     Answer     one answer only: what it is, of any function
 --     Every      a rule of a table, by one test that is computed over all of its entries
 pub mod Turns

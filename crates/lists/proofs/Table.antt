@@ -2,6 +2,7 @@
 --     table-turn, table-done    a loop that fills a list from the front, one store a turn
 --     table-all                 the same as `turns` has it
 --     table-at, table-ext       the entry at a place; rules that agree draw equal lists
+--     table-agree               rules that draw equal lists agree: a law of n cases by one that is computed
 -- Assumes nothing.
 use mathlib.Core.Path.{_≡_, refl, sym, ap, _∙_}
 use mathlib.Core.Logic.{⊎-elim}
@@ -67,6 +68,9 @@ module _ {A : Type 0} where
   unfolding table
   table-ext zero f g h = refl
   table-ext (suc n) f g h = rw (table-ext n f g (λ i l. h i (omega arith)), h n (omega arith))
+
+  pub table-agree : (n : ℕ) (f g : ℕ → A) → table n f ≡ table n g → (i : ℕ) → i < n → f i ≡ g i
+  table-agree n f g e i h = sym (table-at n f i (f i) h) ∙ ap (λ (l : List A). getD l i (f i)) e ∙ table-at n g i (f i) h
 
   -- ---- the first n elements of s, and a list of one value
   pub table-take : (n : ℕ) (s : List A) (d : A) → n ≤ length s → table n (λ i. getD s i d) ≡ take n s

@@ -4,7 +4,7 @@
 --     Rows       the same for a block that is drawn row by row
 --     Parts      a part of a slice, lent to a call
 --     Updates    what stands where after a loop that replaces entries by functions of them
---     Tests      what a test of several says
+--     Tests      what a test of several says, and a `match` on a number that reaches its `_`
 --     Answer     one answer only: what it is, of any function
 --     Every      a rule of a table, by one test that is computed over all of its entries
 pub mod Turns

@@ -1,6 +1,9 @@
--- A test of two parts, `both a b`: what it says where it holds, and how it is shown. Assumes nothing.
+-- A test of two parts, `both a b`: what it says where it holds, and how it is shown; and a `match` on a number that reaches its `_`.
+-- Assumes nothing.
 use mathlib.Core.Bool.{Bool, true, false}
 use mathlib.Core.Path.{_≡_, refl, sym, subst}
+use Prim.Native.Nat.{ℕ, zero, suc, _≤_}
+use native.Mathlib.Omega.{arith}
 use lib.Dec.{T}
 use Rattle.lists.specs.Lists.{both}
 
@@ -30,3 +33,12 @@ same-test true true f g = refl
 same-test true false f g = absurd (f tt)
 same-test false true f g = absurd (g tt)
 same-test false false f g = refl
+
+-- x is none of 0 .. n - 1, in the form in which the `_` of a `match` with these arms is told it; so it is n or more
+abbrev pub NoneBelow : ℕ → ℕ → Type 0
+NoneBelow zero x = Unit
+NoneBelow (suc n) x = NoneBelow n x × (x ≡ n → ⊥)
+
+pub none-below : (n x : ℕ) → NoneBelow n x → n ≤ x
+none-below zero x h = omega arith
+none-below (suc n) x h = let l = none-below n x (h .0) in let k = h .1 in omega arith

@@ -7,6 +7,10 @@
 --     DctDc        a block whose other fifteen coefficients are 0
 --     DctNear      how far the inverse DCT in whole numbers lies from the exact one, for every block
 --     Demand3      the same of a pixel, as the machine makes it
+--     Tm           TM in numbers that are never negative
+--     Total        the sum of an edge, pixel by pixel
+--     Edges        16x16 and 8x8 prediction: TM from the H and V blocks, what an absent edge does, lengths
+--     Subblock     4x4 prediction: Dc and Tm are the same rules, its length
 --     Pictures     the decay pictures that we already know, as one computed table
 pub mod Quantiser
 pub mod Wht
@@ -16,4 +20,8 @@ pub mod DctBlocks
 pub mod DctDc
 pub mod DctNear
 pub mod Demand3
+pub mod Tm
+pub mod Total
+pub mod Edges
+pub mod Subblock
 pub mod Pictures

@@ -41,6 +41,11 @@ module _ (w h c r : ℕ) where
   unfolding placeOk
   place-true p = rw (le-leb w 1024 (p .width), le-leb h 1024 (p .height), lt-ltb c w (p .column), lt-ltb r h (p .row))
 
+  -- where all but the row is within, all hangs on the row
+  pub place-last : w ≤ 1024 → h ≤ 1024 → c < w → ltb r h ≡ placeOk w h c r
+  unfolding placeOk
+  place-last a b d = rw (le-leb w 1024 a, le-leb h 1024 b, lt-ltb c w d)
+
 module _ (y u v w h : ℕ) where
   pub sizes-say : sizesOk y u v w h ≡ true → Lengths y u v w h
   unfolding sizesOk

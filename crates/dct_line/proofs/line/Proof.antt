@@ -33,7 +33,9 @@ returns c =
     )
 
 pub line-spec : {M : Type 1} → statement M
-line-spec = tie.close (tie.spec
+line-spec =
+    tie.close
+    (tie.spec
     (λ c κs. tt)
     (λ c κs. tt)
     (λ c κs. tt)

@@ -59,7 +59,10 @@ unfolding zerosTo
 free-says l zero e k h = absurd (not-suc-le-zero h)
 free-says l (suc n) e k h =
     let b = both-says (zerosTo n l) (eqb (natAbs (entry l (n + 1))) 0) e in
-    ⊎-elim (λ i. rw i (zero-is (entry l (n + 1)) (eqb→eq (natAbs (entry l (n + 1))) 0 (b .1)))) (λ g. free-says l n (T-true (zerosTo n l) (b .0)) k g) (eq-or-lt-of-le (le-of-suc-le-suc h))
+    ⊎-elim
+    (λ i. rw i (zero-is (entry l (n + 1)) (eqb→eq (natAbs (entry l (n + 1))) 0 (b .1))))
+    (λ g. free-says l n (T-true (zerosTo n l) (b .0)) k g)
+    (eq-or-lt-of-le (le-of-suc-le-suc h))
 
 -- then the residue made of the first coefficient alone is the transform's
 pub dc-way : (l res : List ℤ) → acFree l ≡ true → mag (entry l 0) < 32768 → res ≡ idctDc (R16 (entry l 0)) → res ≡ idct l

@@ -13,7 +13,7 @@ use Rattle.lists.proofs.Table.{table-turn, table-at, table-length}
 use Rattle.whole.proofs.Held.{R32}
 use Rattle.whole.proofs.Chain.{Is, known, held, bound}
 use Rattle.rfc6386.specs.Wht.{whtPass, whtColumn, whtAt, iwht}
-use Rattle.rfc6386.proofs.Wht.{pass-sums, column-bound}
+use Rattle.rfc6386.proofs.Wht.{column-sums, column-bound}
 use Rattle.wht.specs.declared.Four.{Four}
 use Rattle.wht.specs.Pass.{Small, Within, lineOf, passedAt, passed, roundedOf}
 
@@ -47,7 +47,7 @@ four-turns : (n : ℕ) (f : ℕ → ℤ) (v0 v1 v2 v3 : ℤ) (d t : List ℤ) �
 four-turns n f v0 v1 v2 v3 d t e h p0 p1 p2 p3 =
     let s0 = table-turn n f v0 d t e p0 (omega arith) in
     let s1 = table-turn (n + 1) f v1 d (set t n v0) s0 p1 (omega arith) in
-    let s2 = table-turn (n + 2) f v2 d (set (set t n v0) (n + 1) v1) (rw (at2) at s1) p2 (omega arith) in
+    let s2 = table-turn (n + 2) f v2 d (set (set t n v0) (n + 1) v1) (rw at2 at s1) p2 (omega arith) in
     rw at4 at (table-turn (n + 3) f v3 d (set (set (set t n v0) (n + 1) v1) (n + 2) v2) (rw at3 at s2) p3 (omega arith))
   where
     at2 : n + 1 + 1 ≡ n + 2
@@ -74,8 +74,7 @@ module _ (x : List ℤ) (c : ℕ) (w : Within 131072 x) where
   result k = whtPass k (at c) (at (4 + c)) (at (8 + c)) (at (12 + c))
 
   result-back : (k : ℕ) → R32 (result k) ≡ result k
-  result-back k =
-      held (known (result k) (pass-sums 131072 (at c) (at (4 + c)) (at (8 + c)) (at (12 + c)) (w .within c) (w .within (4 + c)) (w .within (8 + c)) (w .within (12 + c)) .result k)) tt .is
+  result-back k = held (known (result k) (column-sums 131072 at (w .within) c .result k)) tt .is
 
   result-at : (n k : ℕ) → n % 4 ≡ k → n / 4 ≡ c → result k ≡ passedAt x n
   unfolding whtColumn

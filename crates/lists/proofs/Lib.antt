@@ -2,6 +2,8 @@
 --     Turns      every loop: `turns-step` at each turn, `turns-done` at its end
 --     Table      a list filled from the front, read at a place, equal where the rules agree
 --     Rows       the same for a block that is drawn row by row
+--     Nested     a loop of loops is one loop, a block is one list
+--     Stores     what stands where after a loop of stores
 --     Parts      a part of a slice, lent to a call
 --     Tests      what a test of several says
 --     Answer     one answer only: what it is, of any function
@@ -9,6 +11,8 @@
 pub mod Turns
 pub mod Table
 pub mod Rows
+pub mod Nested
+pub mod Stores
 pub mod Parts
 pub mod Tests
 pub mod Every

@@ -2,17 +2,19 @@
 --     stores-outside    a place that no turn stores to keeps what it had
 --     stores-inside     the place of turn k has what turn k stored, where no two turns store to one place
 --     each-all          each entry of the list replaced in turn
+--     rows-each         the same row by row; with it, a block drawn by stores, row by row
 -- Assumes nothing.
 use mathlib.Core.Path.{_≡_, refl, sym, ap, subst, _∙_}
 use mathlib.Core.Logic.{⊎-elim}
 use mathlib.Core.List.{List, [], _∷_, _++_, append-nil}
-use Prim.Native.Nat.{ℕ, zero, suc, _+_, _<_, _≤_}
-use native.Mathlib.Nat.{eq-or-lt-of-le, le-of-suc-le-suc, not-suc-le-zero, le-refl, le-of-lt, le-of-eq}
+use Prim.Native.Nat.{ℕ, zero, suc, _+_, _*_, _/_, _%_, _<_, _≤_}
+use native.Mathlib.Nat.{eq-or-lt-of-le, le-of-suc-le-suc, not-suc-le-zero, le-refl, le-of-lt, le-of-eq, add-zero, mul-add-div-right, mul-add-mod-self-right, div-eq-of-lt, mod-eq-of-lt, div-add-mod'}
 use native.Mathlib.Omega.{arith}
 use lib.ListN.{length, getD, set, drop, length-set}
 use lib.Seq.{getD-set-same, getD-set-other, drop-cons, drop-length, getD-at, set-at, append-snoc}
-use Rattle.lists.specs.Lists.{table, turns, store}
-use Rattle.lists.proofs.Table.{table-length}
+use Rattle.lists.specs.Lists.{table, rows, turns, store}
+use Rattle.lists.proofs.Table.{table-length, table-ext}
+use Rattle.lists.proofs.Nested.{turns-ext, turns-rows, rows-table}
 
 module _ {A : Type 0} (at : ℕ → ℕ) (v : ℕ → A) where
   pub stores-length : (n : ℕ) (l : List A) → length (turns n (store at v) l) ≡ length l
@@ -60,3 +62,25 @@ module _ {A : Type 0} (d : A) (f : ℕ → A → A) (z : List A) where
       each-front n (le-of-eq (sym e))
       ∙ ap (λ (l : List A). table n (λ k. f k (getD z k d)) ++ l) (ap (λ (k : ℕ). drop k z) (sym e) ∙ drop-length z)
       ∙ append-nil (table n (λ k. f k (getD z k d)))
+
+module _ {A : Type 0} (d : A) (w h : ℕ) (f : ℕ → ℕ → A → A) (z : List A) (l : 0 < w) where
+  -- column c of row r replaced
+  abbrev pub eachRow : ℕ → List A → List A
+  eachRow r = turns w (λ c xs. set xs (r * w + c) (f r c (getD xs (r * w + c) d)))
+
+  pub rows-each : length z ≡ h * w → turns h eachRow z ≡ rows w h (λ r c. f r c (getD z (r * w + c) d))
+  rows-each e =
+      turns-ext h eachRow (λ r. turns w (λ c. each d flat z (r * w + c))) z (λ r y p. turns-ext w _ _ y (λ c xs k. rw (row r c k, column r c k)))
+      ∙ sym (turns-rows w h (each d flat z) z)
+      ∙ each-all d flat z (h * w) e
+      ∙ table-ext (h * w) (λ k. flat k (getD z k d)) (λ k. flat k (getD z (k / w * w + k % w) d)) (λ k p. rw (div-add-mod' k w))
+      ∙ sym (rows-table w h (λ r c. f r c (getD z (r * w + c) d)) l)
+    where
+      flat : ℕ → A → A
+      flat k = f (k / w) (k % w)
+
+      row : (r c : ℕ) → c < w → (r * w + c) / w ≡ r
+      row r c k = rw (mul-add-div-right l r c, div-eq-of-lt k, add-zero)
+
+      column : (r c : ℕ) → c < w → (r * w + c) % w ≡ c
+      column r c k = rw (mul-add-mod-self-right r w c, mod-eq-of-lt k)

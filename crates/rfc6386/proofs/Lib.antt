@@ -1,10 +1,14 @@
 -- The laws about what RFC 6386 says.
+--     Quantiser    the two tables never fall; each index gives a factor of its table; a block dequantised, coefficient by coefficient
+--     Wht          no sum of the inverse WHT leaves 2^20; the DC-only form is the whole transform of a block without AC
 --     DctPass      one pass of the inverse DCT: nothing wraps, every number on the way is one of 32 bits, how far it grows
 --     DctRange     a block with every coefficient from -8191 to 8191: nothing wraps or narrows, 32 or 16 bits between the passes
 --     DctBlocks    the inverse DCT as a list: its length, and which residue stands where, of one block and of four
 --     DctDc        a block whose other fifteen coefficients are 0
 --     DctNear      how far the inverse DCT in whole numbers lies from the exact one, for every block
 --     Demand3      the same of a pixel, as the machine makes it
+pub mod Quantiser
+pub mod Wht
 pub mod DctPass
 pub mod DctRange
 pub mod DctBlocks

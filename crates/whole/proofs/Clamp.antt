@@ -29,20 +29,20 @@ clamp-in m n h = omega arith
 never : _≡_ {A = ℕ} 0 1 → ⊥
 never q = omega arith
 
-pub clamp-low : (z : ℤ) → ltZ z (pos 0) ≡ true → 0 ≡ clamp z
+pub clamp-low : (m : ℕ) (z : ℤ) → ltZ z (pos 0) ≡ true → 0 ≡ clampTo m z
 unfolding clampTo
-clamp-low (pos n) e = omega (arith, ltb-true n 0 e)
-clamp-low (negsuc n) e = refl
+clamp-low m (pos n) e = omega (arith, ltb-true n 0 e)
+clamp-low m (negsuc n) e = refl
 
-pub clamp-high : (z : ℤ) → ltZ (pos 255) z ≡ true → 255 ≡ clamp z
+pub clamp-high : (m : ℕ) (z : ℤ) → ltZ (pos m) z ≡ true → m ≡ clampTo m z
 unfolding clampTo
-clamp-high (pos n) e = omega (arith, ltb-true 255 n e)
-clamp-high (negsuc n) e = let q : _≡_ {A = ℕ} 0 1 = cc in absurd (never q)
+clamp-high m (pos n) e = omega (arith, ltb-true m n e)
+clamp-high m (negsuc n) e = let q : _≡_ {A = ℕ} 0 1 = cc in absurd (never q)
 
-pub clamp-self : (z : ℤ) → ltZ z (pos 0) ≡ false → ltZ (pos 255) z ≡ false → z ≡ pos (clamp z)
+pub clamp-self : (m : ℕ) (z : ℤ) → ltZ z (pos 0) ≡ false → ltZ (pos m) z ≡ false → z ≡ pos (clampTo m z)
 unfolding clampTo
-clamp-self (pos n) e h = ap pos (omega (arith, ltb-false 255 n h))
-clamp-self (negsuc n) e h = let q : _≡_ {A = ℕ} 0 1 = cc in absurd (never q)
+clamp-self m (pos n) e h = ap pos (omega (arith, ltb-false m n h))
+clamp-self m (negsuc n) e h = let q : _≡_ {A = ℕ} 0 1 = cc in absurd (never q)
 
 -- a clamp is a byte
 pub clamp-byte : (z : ℤ) → natAbs (pos (clamp z)) < 256

@@ -1,17 +1,24 @@
 -- What a local of 32 or of 16 bits gives back: a need shows each value that went through a local as `toZ w (ofZ w z)`, and these laws take it off.
 --     held32, held16   a call's result: `held32 (c .F .result) (c .F .ok)`
 --     shr-held         a call's result shifted down in place, `f(..) >> k`
+--     elem16           an element of an array of 16-bit numbers, from what is known of the array: `elem16 (c .args .xs) (c .good .0 .0) k (c .good .0 .1 .1)`
 --     add64 ..         two 32-bit numbers: their sum, difference and product fit 64 bits
 -- Assumes nothing.
-use Prim.Native.Nat.{ℕ, _+_, _*_, _^_, _≤_, _<_}
+use Prim.Native.Nat.{ℕ, zero, suc, _+_, _*_, _^_, _≤_, _<_}
 use native.Mathlib.Omega.{arith}
 use native.Mathlib.Nat.{mul-le-mul, lt-of-le-of-lt}
-use mathlib.Core.Path.{_≡_, _∙_}
+use mathlib.Core.Path.{_≡_}
+use mathlib.Core.List.{List, [], _∷_}
 use lib.IntN.{ℤ, pos, negsuc, natAbs, _+ℤ_, _-ℤ_, _*ℤ_}
+use lib.ListN.{getD}
 use lib.Signed.{mag, shrZ, natAbs-le, mag-shr}
+use lib.Dec.{lit<}
+use denote.Array.{each}
+use denote.Shadow.{shadow}
+use denote.Signed.{SInt}
 use mir.Syntax.{Width, w16, w32, w64}
 use mir.Facts.{toZ-ofZ, sfits-widen}
-use mir.Val.{SFits, hbits, toZ, ofZ}
+use mir.Val.{Val, SFits, hbits, toZ, ofZ}
 use Rattle.whole.specs.Whole.{wrap, narrow}
 use Rattle.whole.proofs.Range.{abs-add, abs-sub, abs-mul}
 use Rattle.whole.proofs.Modulo.{in16, in32}
@@ -35,6 +42,13 @@ back32 z = toZ-ofZ (in32 z)
 
 pub back16 : (z : ℤ) → R16 (narrow z) ≡ narrow z
 back16 z = toZ-ofZ (in16 z)
+
+-- ---- an element of an array, at any index, since past the end there is 0
+pub elem16 : (xs : List ℤ) (us : List Val) (k : ℕ) → shadow (each ℤ (SInt w16 .own) xs us) → mag (getD xs k (pos 0)) < 32768
+elem16 [] us k p = lit< tt
+elem16 (x ∷ xs) [] k p = absurd p
+elem16 (x ∷ xs) (u ∷ us) zero p = p .0 .1
+elem16 (x ∷ xs) (u ∷ us) (suc k) p = elem16 xs us k (p .1)
 
 -- ---- after a shift down
 pub shr-fits : {w : Width} {z : ℤ} (m : ℕ) → SFits w z → SFits w (shrZ z m)

@@ -10,15 +10,15 @@ use Rattle.whole.proofs.within_byte.Statement.{statement}
 use Rattle.whole.proofs.within_byte.Tie as tie
 
 returns : tie.Need-returns
-returns c = ap pos (clamp-low (c .before .args .v) (rw (toZ-ofZ (c .before .fits .v)) at (c .if1 .taken)))
+returns c = ap pos (clamp-low 255 (c .before .args .v) (rw (toZ-ofZ (c .before .fits .v)) at (c .if1 .taken)))
 
 returns-2 : tie.Need-returns-2
-returns-2 c = ap pos (clamp-high (c .before .before .args .v) (rw (toZ-ofZ (c .before .before .fits .v)) at (c .if2 .taken)))
+returns-2 c = ap pos (clamp-high 255 (c .before .before .args .v) (rw (toZ-ofZ (c .before .before .fits .v)) at (c .if2 .taken)))
 
 returns-3 : tie.Need-returns-3
 returns-3 c =
     toZ-ofZ (c .before .before .fits .v)
-    ∙ clamp-self (c .before .before .args .v) (rw (toZ-ofZ (c .before .before .fits .v)) at (c .before .if1 .left)) (rw (toZ-ofZ (c .before .before .fits .v)) at (c .if2 .left))
+    ∙ clamp-self 255 (c .before .before .args .v) (rw (toZ-ofZ (c .before .before .fits .v)) at (c .before .if1 .left)) (rw (toZ-ofZ (c .before .before .fits .v)) at (c .if2 .left))
 
 pub within-byte-spec : {M : Type 1} → statement M
 within-byte-spec = tie.close (tie.spec returns returns-2 returns-3)

@@ -1,0 +1,2 @@
+-- The answer of `Y1DequantFactors::from_indices`.
+pub mod Factors

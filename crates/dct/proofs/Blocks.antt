@@ -6,19 +6,20 @@ use lib.IntN.{ℤ, pos}
 use lib.ListN.{replicate}
 use Rattle.lists.specs.Lists.{table, rows, turns}
 use Rattle.rfc6386.specs.Dct.{column, passes, residue, idct, idctFour}
-use Rattle.dct.specs.Lines.{lineOf, rowOf, columnTurn, rowTurn, fourTurn, besides}
+use Rattle.dct.specs.Lines.{lineOf, rowOf, columnTurn, rowTurn, widened, besides}
 
-one : (l : List ℤ) → turns 4 (rowTurn (turns 4 (columnTurn 4 l) (replicate 16 (pos 0)))) (replicate 16 (pos 0)) ≡ idct l
-unfolding turns table rows lineOf rowOf columnTurn rowTurn idct residue passes column
+one : (l : List ℤ) → turns 4 (rowTurn (turns 4 (columnTurn 4 (widened 16 0 0 l (replicate 16 (pos 0)))) (replicate 16 (pos 0)))) (replicate 16 (pos 0)) ≡ idct l
+unfolding turns table rows lineOf rowOf columnTurn rowTurn widened idct residue passes column
 one l = refl
 
 four : (l : List ℤ) → turns 16 (rowTurn (turns 16 (columnTurn 16 (besides l)) (replicate 64 (pos 0)))) (replicate 64 (pos 0)) ≡ idctFour l
-unfolding turns table rows lineOf rowOf columnTurn rowTurn fourTurn besides idctFour residue passes column
+unfolding turns table rows lineOf rowOf columnTurn rowTurn widened besides idctFour residue passes column
 four l = refl
 
 -- t is what the columns leave, and o what the rows leave
-pub one-block : (l t o : List ℤ) → t ≡ turns 4 (columnTurn 4 l) (replicate 16 (pos 0)) → o ≡ turns 4 (rowTurn t) (replicate 16 (pos 0)) → o ≡ idct l
-one-block l t o e f = f ∙ rw e (one l)
+pub one-block : (l s t o : List ℤ) → s ≡ widened 16 0 0 l (replicate 16 (pos 0)) → t ≡ turns 4 (columnTurn 4 s) (replicate 16 (pos 0))
+    → o ≡ turns 4 (rowTurn t) (replicate 16 (pos 0)) → o ≡ idct l
+one-block l s t o d e f = f ∙ rw (e, d) (one l)
 
 pub four-blocks : (l s t o : List ℤ) → s ≡ besides l → t ≡ turns 16 (columnTurn 16 s) (replicate 64 (pos 0))
     → o ≡ turns 16 (rowTurn t) (replicate 64 (pos 0)) → o ≡ idctFour l

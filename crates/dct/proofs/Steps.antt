@@ -2,29 +2,29 @@
 -- Assumes nothing.
 use mathlib.Core.Path.{_≡_}
 use mathlib.Core.List.{List}
-use Prim.Native.Nat.{ℕ, _+_, _*_, _/_, _%_, _<_}
+use Prim.Native.Nat.{ℕ, _+_, _*_, _<_}
 use lib.IntN.{ℤ}
 use lib.Signed.{mag}
 use Rattle.whole.proofs.Held.{R16, R32, held16, held32}
 use Rattle.rfc6386.specs.Dct.{entry}
 use Rattle.dct.specs.declared.Four.{Four}
 use Rattle.dct.specs.declared.Short.{Short}
-use Rattle.dct.specs.Lines.{lineOf, rowOf, stored, columnTurn, rowTurn, fourTurn}
+use Rattle.dct.specs.Lines.{lineOf, rowOf, stored, columnTurn, rowTurn}
 
 stored-same : (i0 i1 i2 i3 : ℕ) (l : List ℤ) {u0 u1 u2 u3 v0 v1 v2 v3 : ℤ} → u0 ≡ v0 → u1 ≡ v1 → u2 ≡ v2 → u3 ≡ v3
     → stored i0 i1 i2 i3 u0 u1 u2 u3 l ≡ stored i0 i1 i2 i3 v0 v1 v2 v3 l
 stored-same i0 i1 i2 i3 l p q r s = rw (p, q, r, s)
 
 pub column-turned : (w j : ℕ) (s t : List ℤ) (f : Four)
-    → f ≡ lineOf (R16 (entry s j)) (R16 (entry s (w + j))) (R16 (entry s (2 * w + j))) (R16 (entry s (3 * w + j)))
-    → mag (entry s j) < 32768 → mag (entry s (w + j)) < 32768 → mag (entry s (2 * w + j)) < 32768 → mag (entry s (3 * w + j)) < 32768
+    → f ≡ lineOf (R32 (entry s j)) (R32 (entry s (j + w))) (R32 (entry s (j + w + w))) (R32 (entry s (j + w + w + w)))
+    → mag (entry s j) < 2147483648 → mag (entry s (j + w)) < 2147483648 → mag (entry s (j + w + w)) < 2147483648 → mag (entry s (j + w + w + w)) < 2147483648
     → mag (f .x0) < 2147483648 → mag (f .x1) < 2147483648 → mag (f .x2) < 2147483648 → mag (f .x3) < 2147483648
-    → stored j (w + j) (2 * w + j) (3 * w + j) (R32 (f .x0)) (R32 (f .x1)) (R32 (f .x2)) (R32 (f .x3)) t ≡ columnTurn w s j t
+    → stored j (j + w) (j + w + w) (j + w + w + w) (R32 (f .x0)) (R32 (f .x1)) (R32 (f .x2)) (R32 (f .x3)) t ≡ columnTurn w s j t
 unfolding columnTurn
 column-turned w j s t f e h0 h1 h2 h3 k0 k1 k2 k3 =
-    let g : f ≡ lineOf (entry s j) (entry s (w + j)) (entry s (2 * w + j)) (entry s (3 * w + j)) =
-    cc (held16 (entry s j) h0, held16 (entry s (w + j)) h1, held16 (entry s (2 * w + j)) h2, held16 (entry s (3 * w + j)) h3) in
-    stored-same j (w + j) (2 * w + j) (3 * w + j) t (cc (held32 (f .x0) k0)) (cc (held32 (f .x1) k1)) (cc (held32 (f .x2) k2)) (cc (held32 (f .x3) k3))
+    let g : f ≡ lineOf (entry s j) (entry s (j + w)) (entry s (j + w + w)) (entry s (j + w + w + w)) =
+    cc (held32 (entry s j) h0, held32 (entry s (j + w)) h1, held32 (entry s (j + w + w)) h2, held32 (entry s (j + w + w + w)) h3) in
+    stored-same j (j + w) (j + w + w) (j + w + w + w) t (cc (held32 (f .x0) k0)) (cc (held32 (f .x1) k1)) (cc (held32 (f .x2) k2)) (cc (held32 (f .x3) k3))
 
 pub row-turned : (q : ℕ) (t o : List ℤ) (f : Short)
     → f ≡ rowOf (R32 (entry t (4 * q))) (R32 (entry t (4 * q + 1))) (R32 (entry t (4 * q + 2))) (R32 (entry t (4 * q + 3)))
@@ -36,13 +36,3 @@ row-turned q t o f e h0 h1 h2 h3 k0 k1 k2 k3 =
     let g : f ≡ rowOf (entry t (4 * q)) (entry t (4 * q + 1)) (entry t (4 * q + 2)) (entry t (4 * q + 3)) =
     cc (held32 (entry t (4 * q)) h0, held32 (entry t (4 * q + 1)) h1, held32 (entry t (4 * q + 2)) h2, held32 (entry t (4 * q + 3)) h3) in
     stored-same (4 * q) (4 * q + 1) (4 * q + 2) (4 * q + 3) o (cc (held16 (f .y0) k0)) (cc (held16 (f .y1) k1)) (cc (held16 (f .y2) k2)) (cc (held16 (f .y3) k3))
-
-pub four-turned : (l s : List ℤ) (k : ℕ)
-    → mag (entry l (4 * k)) < 32768 → mag (entry l (4 * k + 1)) < 32768 → mag (entry l (4 * k + 2)) < 32768 → mag (entry l (4 * k + 3)) < 32768
-    → stored (16 * (k % 4) + 4 * (k / 4)) (16 * (k % 4) + 4 * (k / 4) + 1) (16 * (k % 4) + 4 * (k / 4) + 2) (16 * (k % 4) + 4 * (k / 4) + 3)
-    (R16 (entry l (4 * k))) (R16 (entry l (4 * k + 1))) (R16 (entry l (4 * k + 2))) (R16 (entry l (4 * k + 3))) s
-    ≡ fourTurn l k s
-unfolding fourTurn
-four-turned l s k h0 h1 h2 h3 =
-    let to = 16 * (k % 4) + 4 * (k / 4) in
-    stored-same to (to + 1) (to + 2) (to + 3) s (held16 _ h0) (held16 _ h1) (held16 _ h2) (held16 _ h3)

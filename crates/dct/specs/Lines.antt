@@ -11,7 +11,7 @@ use mathlib.Core.List.{List}
 use lib.IntN.{ℤ, pos, _+ℤ_, _-ℤ_}
 use lib.ListN.{set, replicate}
 use Rattle.whole.specs.Whole.{wrap}
-use Rattle.lists.specs.Lists.{turns}
+use Rattle.lists.specs.Lists.{turns, store}
 use Rattle.rfc6386.specs.Dct.{bySin, byCos, pass, wrapped, rounded, entry}
 use Rattle.dct.specs.declared.Four.{Four}
 use Rattle.dct.specs.declared.Short.{Short}
@@ -45,8 +45,8 @@ stored i0 i1 i2 i3 x0 x1 x2 x3 l = set (set (set (set l i0 x0) i1 x1) i2 x2) i3 
 -- column j of the rows of w
 unfoldable pub columnTurn : ℕ → List ℤ → ℕ → List ℤ → List ℤ
 columnTurn w s j t =
-    let f = lineOf (entry s j) (entry s (w + j)) (entry s (2 * w + j)) (entry s (3 * w + j)) in
-    stored j (w + j) (2 * w + j) (3 * w + j) (f .x0) (f .x1) (f .x2) (f .x3) t
+    let f = lineOf (entry s j) (entry s (j + w)) (entry s (j + w + w)) (entry s (j + w + w + w)) in
+    stored j (j + w) (j + w + w) (j + w + w + w) (f .x0) (f .x1) (f .x2) (f .x3) t
 
 -- the four numbers from 4 q on
 unfoldable pub rowTurn : List ℤ → ℕ → List ℤ → List ℤ
@@ -54,11 +54,13 @@ rowTurn t q o =
     let f = rowOf (entry t (4 * q)) (entry t (4 * q + 1)) (entry t (4 * q + 2)) (entry t (4 * q + 3)) in
     stored (4 * q) (4 * q + 1) (4 * q + 2) (4 * q + 3) (f .y0) (f .y1) (f .y2) (f .y3) o
 
+-- n numbers of l from `from` on, put into s from `to` on
+unfoldable pub widened : ℕ → ℕ → ℕ → List ℤ → List ℤ → List ℤ
+widened n to from l s = turns n (store (λ i. to + i) (λ i. entry l (from + i))) s
+
 -- row k % 4 of block k / 4, put beside the same row of the other blocks
-unfoldable pub fourTurn : List ℤ → ℕ → List ℤ → List ℤ
-fourTurn l k s =
-    let to = 16 * (k % 4) + 4 * (k / 4) in
-    stored to (to + 1) (to + 2) (to + 3) (entry l (4 * k)) (entry l (4 * k + 1)) (entry l (4 * k + 2)) (entry l (4 * k + 3)) s
+abbrev pub besideTurn : List ℤ → ℕ → List ℤ → List ℤ
+besideTurn l k s = widened 4 (16 * (k % 4) + 4 * (k / 4)) (4 * k) l s
 
 unfoldable pub besides : List ℤ → List ℤ
-besides l = turns 16 (fourTurn l) (replicate 64 (pos 0))
+besides l = turns 16 (besideTurn l) (replicate 64 (pos 0))

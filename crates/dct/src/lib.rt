@@ -7,7 +7,7 @@ ghost use Prim.Native.Nat.{_+_, _*_, _<_, _≤_};
 ghost use lib.ListN.{length};
 ghost use Rattle.lists.specs.Lists.{turns};
 ghost use Rattle.rfc6386.specs.Dct.{bySin, byCos, rounded, idct, idctFour};
-ghost use Rattle.dct.specs.Lines.{oddSum, oddDifference, lineOf, rowOf, columnTurn, rowTurn, fourTurn, besides};
+ghost use Rattle.dct.specs.Lines.{oddSum, oddDifference, lineOf, rowOf, columnTurn, rowTurn, widened, besides};
 
 // sqrt 2 * sin (pi / 8) and sqrt 2 * cos (pi / 8) - 1, in 65536ths
 const SINPI8_SQRT2: i32 = 35468;
@@ -66,18 +66,6 @@ fn line(i0: i32, i4: i32, i8: i32, i12: i32) -> Four
     }
 }
 
-// A column of a block.
-fn column(i0: i16, i4: i16, i8: i16, i12: i16) -> Four
-    ensures { λ r. ⌜ r ≡ lineOf i0 i4 i8 i12 ⌝ }
-{
-    line(
-        whole::widen(i0),
-        whole::widen(i4),
-        whole::widen(i8),
-        whole::widen(i12),
-    )
-}
-
 // The closing rounding: an eighth, in 16 bits.
 fn rounded(x: i32) -> i16
     ensures { λ r. ⌜ r ≡ rounded x ⌝ }
@@ -106,23 +94,26 @@ fn row(i0: i32, i1: i32, i2: i32, i3: i32) -> Short
     }
 }
 
-// Column j of four rows of w numbers, transformed into column j of t.
-fn column_into(t: &mut [i32], s: &[i16], w: usize, j: usize)
+// Column j of the four rows of w numbers of s, transformed into column j of t.
+fn column_into(t: &mut [i32], s: &[i32], w: usize, j: usize)
     requires { ⌜ (j < w) × (w ≤ 16) × (4 * w ≤ length (now s)) × (4 * w ≤ length (now t)) ⌝ }
     ensures { λ _. ⌜ now (t .exit) ≡ columnTurn w (now (s .entry)) j (now (t .entry)) ⌝ }
 {
-    let f = column(s[j], s[w + j], s[2 * w + j], s[3 * w + j]);
+    let j1 = j + w;
+    let j2 = j1 + w;
+    let j3 = j2 + w;
+    let f = line(s[j], s[j1], s[j2], s[j3]);
     let x0 = f.x0;
     let x1 = f.x1;
     let x2 = f.x2;
     let x3 = f.x3;
     t[j] = x0;
-    t[w + j] = x1;
-    t[2 * w + j] = x2;
-    t[3 * w + j] = x3;
+    t[j1] = x1;
+    t[j2] = x2;
+    t[j3] = x3;
 }
 
-fn columns(t: &mut [i32], s: &[i16], w: usize)
+fn columns(t: &mut [i32], s: &[i32], w: usize)
     requires { ⌜ (w ≤ 16) × (4 * w ≤ length (now s)) × (4 * w ≤ length (now t)) ⌝ }
     ensures { λ _. ⌜ now (t .exit) ≡ turns w (columnTurn w (now (s .entry))) (now (t .entry)) ⌝ }
 {
@@ -131,20 +122,24 @@ fn columns(t: &mut [i32], s: &[i16], w: usize)
     }
 }
 
-// Four numbers from 4 q on, a row of a block, transformed into the same four of o.
+// The four numbers of t from 4 q on, a row of a block, transformed into the same four of o.
 fn row_into(o: &mut [i16], t: &[i32], q: usize)
     requires { ⌜ (q < 16) × (4 * q + 4 ≤ length (now t)) × (4 * q + 4 ≤ length (now o)) ⌝ }
     ensures { λ _. ⌜ now (o .exit) ≡ rowTurn (now (t .entry)) q (now (o .entry)) ⌝ }
 {
-    let f = row(t[4 * q], t[4 * q + 1], t[4 * q + 2], t[4 * q + 3]);
+    let q0 = 4 * q;
+    let q1 = q0 + 1;
+    let q2 = q0 + 2;
+    let q3 = q0 + 3;
+    let f = row(t[q0], t[q1], t[q2], t[q3]);
     let y0 = f.y0;
     let y1 = f.y1;
     let y2 = f.y2;
     let y3 = f.y3;
-    o[4 * q] = y0;
-    o[4 * q + 1] = y1;
-    o[4 * q + 2] = y2;
-    o[4 * q + 3] = y3;
+    o[q0] = y0;
+    o[q1] = y1;
+    o[q2] = y2;
+    o[q3] = y3;
 }
 
 fn rows(o: &mut [i16], t: &[i32], n: usize)
@@ -156,40 +151,36 @@ fn rows(o: &mut [i16], t: &[i32], n: usize)
     }
 }
 
+// n numbers of l from `from` on, put into s from `to` on.
+fn widen_into(s: &mut [i32], to: usize, l: &[i16], from: usize, n: usize)
+    requires { ⌜ (to + n ≤ length (now s)) × (from + n ≤ length (now l)) ⌝ }
+    ensures { λ _. ⌜ now (s .exit) ≡ widened n to from (now (l .entry)) (now (s .entry)) ⌝ }
+{
+    for i in 0..n {
+        s[to + i] = whole::widen(l[from + i]);
+    }
+}
+
 // The inverse DCT of a block of 16 coefficients in raster order: its 16 residues. RFC 6386, 14.4.
 pub fn inverse_dct_4x4(input: [i16; 16]) -> [i16; 16]
     ensures { λ r. ⌜ r ≡ idct input ⌝ }
 {
+    let mut s = [0i32; 16];
+    widen_into(&mut s, 0, &input, 0, 16);
     let mut t = [0i32; 16];
-    columns(&mut t, &input, 4);
+    columns(&mut t, &s, 4);
     let mut o = [0i16; 16];
     rows(&mut o, &t, 4);
     o
 }
 
-// Row k % 4 of block k / 4, put beside the same row of the other blocks.
-fn four_into(s: &mut [i16; 64], blocks: &[i16; 64], k: usize)
-    requires { ⌜ k < 16 ⌝ }
-    ensures { λ _. ⌜ now (s .exit) ≡ fourTurn (now (blocks .entry)) k (now (s .entry)) ⌝ }
-{
-    let x0 = blocks[4 * k];
-    let x1 = blocks[4 * k + 1];
-    let x2 = blocks[4 * k + 2];
-    let x3 = blocks[4 * k + 3];
-    let to = 16 * (k % 4) + 4 * (k / 4);
-    s[to] = x0;
-    s[to + 1] = x1;
-    s[to + 2] = x2;
-    s[to + 3] = x3;
-}
-
-// Four blocks, one after another, as four rows of 16: number 16 i + 4 b + c is row i, column c of block b.
-fn beside(blocks: [i16; 64]) -> [i16; 64]
+// Four blocks, one after another, as four rows of 16: row k % 4 of block k / 4 goes beside the same row of the other blocks.
+fn beside(blocks: [i16; 64]) -> [i32; 64]
     ensures { λ r. ⌜ r ≡ besides blocks ⌝ }
 {
-    let mut s = [0i16; 64];
+    let mut s = [0i32; 64];
     for k in 0..16 {
-        four_into(&mut s, &blocks, k);
+        widen_into(&mut s, 16 * (k % 4) + 4 * (k / 4), &blocks, 4 * k, 4);
     }
     s
 }

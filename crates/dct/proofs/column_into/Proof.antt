@@ -1,3 +1,4 @@
+-- `dct::column_into` meets its contract. Assumes nothing.
 use borrow.Author.Needs.{needs}
 use native.Mathlib.Omega.{arith}
 use lib.ListN.{length-set}
@@ -24,8 +25,8 @@ returns c =
     let c8 = c7 .before in
     let a = c8 .before .args in
     let t = c3 .struct-told .given in
-    column-turned (a .w) (a .j) (a .s .now) (a .t .now) (c4 .column .result) (c4 .column .ensures)
-    (c8 .column-arg .given) (c7 .column-arg2 .given) (c6 .column-arg3 .given) (c5 .column-arg4 .given)
+    column-turned (a .w) (a .j) (a .s .now) (a .t .now) (c4 .line .result) (c4 .line .ensures)
+    (c8 .line-arg .given) (c7 .line-arg2 .given) (c6 .line-arg3 .given) (c5 .line-arg4 .given)
     (t .0 .1) (t .1 .0 .1) (t .1 .1 .0 .1) (t .1 .1 .1 .0 .1)
 
 pub column-into-spec : {M : Type 1} → statement M
@@ -43,20 +44,13 @@ column-into-spec =
     (λ c. search needs)
     (λ c. search needs)
     (λ c. search needs)
-    (λ c. search needs)
-    (λ c. search needs)
     (λ c κs. search needs)
-    (λ c. search needs)
     (λ c. search needs)
     (λ c. search needs)
     (λ c. search needs)
     slice-set-from-x1
     (λ c. search needs)
-    (λ c. search needs)
-    (λ c. search needs)
     slice-set-from-x2
-    (λ c. search needs)
-    (λ c. search needs)
     (λ c. search needs)
     slice-set-from-x3
     (λ c. search needs)

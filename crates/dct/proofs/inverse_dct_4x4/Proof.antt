@@ -8,12 +8,15 @@ returns : tie.Need-returns
 returns c =
     let c1 = c .before in
     let c5 = c1 .before .before .before .before in
-    one-block _ _ _ (c5 .columns .ensures) (c1 .rows .ensures)
+    one-block _ _ _ _ (c5 .before .before .before .before .widen-into .ensures) (c5 .columns .ensures) (c1 .rows .ensures)
 
 pub inverse-dct-4x4-spec : {M : Type 1} → statement M
 inverse-dct-4x4-spec =
     tie.close
     (tie.spec
+    (λ c. search needs)
+    (λ c. search needs)
+    (λ c κs. search needs)
     (λ c. search needs)
     (λ c. search needs)
     (λ c κs. search needs)

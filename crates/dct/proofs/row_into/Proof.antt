@@ -1,3 +1,4 @@
+-- `dct::row_into` meets its contract. Assumes nothing.
 use borrow.Author.Needs.{needs}
 use native.Mathlib.Omega.{arith}
 use lib.ListN.{length-set}
@@ -44,23 +45,13 @@ row-into-spec =
     (λ c. search needs)
     (λ c. search needs)
     (λ c. search needs)
-    (λ c. search needs)
-    (λ c. search needs)
-    (λ c. search needs)
     (λ c κs. search needs)
-    (λ c. search needs)
-    (λ c. search needs)
-    (λ c. search needs)
     (λ c. search needs)
     (λ c. search needs)
     (λ c. search needs)
     slice-set-from-y1
     (λ c. search needs)
-    (λ c. search needs)
-    (λ c. search needs)
     slice-set-from-y2
-    (λ c. search needs)
-    (λ c. search needs)
     (λ c. search needs)
     slice-set-from-y3
     (λ c. search needs)

@@ -1,0 +1,87 @@
+-- `residue::plane::inverse_dct_4x4_add_into` meets its contract: each way lends on the part of the plane that starts at the block. Assumes nothing.
+use mathlib.Core.Bool.{true}
+use mathlib.Core.Path.{_≡_, sym, _∙_}
+use Prim.Native.Nat.{_+_, _*_, _≤_}
+use native.Mathlib.Omega.{arith}
+use borrow.Author.Needs.{needs}
+use denote.Ref.{now}
+use lib.ListN.{length, length-drop}
+use Rattle.lists.proofs.Parts.{tail-whole}
+use Rattle.rfc6386.specs.Residue.{lies}
+use Rattle.residue.proofs.AcFree.{dc-way}
+use Rattle.residue.proofs.Answers.{into-given, into-refused}
+use Rattle.residue.proofs.Geometry.{lies-room}
+use Rattle.residue.proofs.Part.{added-back}
+use Rattle.residue.proofs.plane.inverse_dct_4x4_add_into.Statement.{statement}
+use Rattle.residue.proofs.plane.inverse_dct_4x4_add_into.Tie as tie
+
+module _ (c : tie.Then1) where
+  -- past the test the block lies in the plane, and there is room for its first pixel and its rows
+  inside : lies (length (now (c .before .before .before .args .plane))) (c .before .before .before .args .stride) (c .before .before .before .args .sub-row) (c .before .before .before .args .sub-col) ≡ true
+  inside = sym (c .before .block-lies .ensures) ∙ c .if1 .taken
+
+  room : (4 * c .before .before .before .args .sub-row ≤ length (now (c .before .before .before .args .plane)))
+      × (4 * c .before .before .before .args .sub-row * c .before .before .before .args .stride + 4 * c .before .before .before .args .sub-col + (3 * c .before .before .before .args .stride + 4)
+        ≤ length (now (c .before .before .before .args .plane)))
+  room = lies-room _ _ _ _ inside
+
+add-rows-requires : tie.Need-add-rows-requires
+add-rows-requires c κs = let h = room (c .before .before .before .before .before) in rw (tail-whole, length-drop) (omega arith)
+
+add-rows-requires-2 : tie.Need-add-rows-requires-2
+add-rows-requires-2 c κs = let h = room (c .before .before .before .before) in rw (tail-whole, length-drop) (omega arith)
+
+returns : tie.Need-returns
+returns c =
+    let a = c .before .before in
+    let d = a .before in
+    let t = d .before .before .before in
+    let i = t .before .before in
+    let x = i .before .before .before .args in
+    let h = room i in
+    into-given (x .t1) (x .stride) (x .sub-row) (x .sub-col) (x .plane .now) (d .dc-only .result) _ (inside i)
+    (dc-way (x .t1) _ (sym (t .before .ac-free .ensures) ∙ t .if2 .taken) (d .before .dc-only-arg .given) (d .dc-only .ensures))
+    (added-back (x .stride) (d .dc-only .result) _ (x .plane .now) _ (omega arith) (a .add-rows .ensures))
+
+returns-2 : tie.Need-returns-2
+returns-2 c =
+    let a = c .before .before in
+    let d = a .before in
+    let i = d .before .before .before .before in
+    let x = i .before .before .before .args in
+    let h = room i in
+    into-given (x .t1) (x .stride) (x .sub-row) (x .sub-col) (x .plane .now) (d .inverse-dct-4x4 .result) _ (inside i)
+    (d .inverse-dct-4x4 .ensures)
+    (added-back (x .stride) (d .inverse-dct-4x4 .result) _ (x .plane .now) _ (omega arith) (a .add-rows2 .ensures))
+
+returns-3 : tie.Need-returns-3
+returns-3 c =
+    let x = c .before .before .before .args in
+    into-refused (x .t1) (x .stride) (x .sub-row) (x .sub-col) (x .plane .now) (sym (c .before .block-lies .ensures) ∙ c .if1 .left)
+
+pub inverse-dct-4x4-add-into-spec : {M : Type 1} → statement M
+inverse-dct-4x4-add-into-spec =
+    tie.close
+    (tie.spec
+    (λ c κs. tt)
+    (λ c. omega (arith, room c))
+    (λ c. omega (arith, room c))
+    (λ c. omega (arith, room c))
+    (λ c. omega (arith, room c))
+    (λ c κs. tt)
+    (λ c. omega (arith, room (c .before .before)))
+    (λ c. omega (arith, room (c .before .before)))
+    (λ c. search needs)
+    (λ c. search needs)
+    (λ c κs. tt)
+    add-rows-requires
+    (λ c. omega (arith, room (c .before .before)))
+    (λ c. omega (arith, room (c .before .before)))
+    (λ c. search needs)
+    (λ c κs. tt)
+    add-rows-requires-2
+    (λ c. search needs)
+    returns
+    (λ c. search needs)
+    returns-2
+    returns-3)

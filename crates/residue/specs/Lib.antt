@@ -1,0 +1,2 @@
+-- What the functions of `residue` answer, and what they leave.
+pub mod Answer

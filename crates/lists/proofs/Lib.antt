@@ -5,7 +5,7 @@
 --     Nested     a loop of loops is one loop, a block is one list
 --     Stores     what stands where after a loop of stores
 --     Parts      a part of a slice, lent to a call
---     Tests      what a test of several says
+--     Tests      what a test of several says, and a `match` on a number that reaches its `_`
 --     Answer     one answer only: what it is, of any function
 --     Every      a rule of a table, by one test that is computed over all of its entries
 pub mod Turns

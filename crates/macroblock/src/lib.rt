@@ -1,7 +1,8 @@
-// Plain data of a key-frame macroblock: the prediction modes of RFC 6386 sections 8 and 11, the mode record, the
-// neighbour record and the numbers of the replies.
+// Plain data of a key-frame macroblock: the prediction modes of RFC 6386 sections 8 and 11 with their numbers, the mode
+// record, the neighbour record and the numbers of the replies.
 mod modes;
 mod neighbors;
+mod numbers;
 pub mod reply;
 
 pub use modes::IntraBmode;
@@ -9,3 +10,12 @@ pub use modes::IntraUvMode;
 pub use modes::IntraYMode;
 pub use modes::MbModes;
 pub use neighbors::MbNeighbors;
+pub use numbers::BModeOf;
+pub use numbers::UvModeOf;
+pub use numbers::YModeOf;
+pub use numbers::b_mode_number;
+pub use numbers::b_mode_of;
+pub use numbers::uv_mode_number;
+pub use numbers::uv_mode_of;
+pub use numbers::y_mode_number;
+pub use numbers::y_mode_of;

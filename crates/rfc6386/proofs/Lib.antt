@@ -7,6 +7,9 @@
 --     DctDc        a block whose other fifteen coefficients are 0
 --     DctNear      how far the inverse DCT in whole numbers lies from the exact one, for every block
 --     Demand3      the same of a pixel, as the machine makes it
+--     Tm           TM in numbers that are never negative
+--     Edges        16x16 and 8x8 prediction: TM from the H and V blocks, what an absent edge does, lengths
+--     Total        the sum of an edge, pixel by pixel
 --     Planes       a plane predicted whole: one pixel, what it depends on
 --     Parts        the luma of mode B: a pixel of sub-block k is the one that turn k put
 --     Absent       the bytes of an absent edge are read nowhere
@@ -18,6 +21,9 @@ pub mod DctBlocks
 pub mod DctDc
 pub mod DctNear
 pub mod Demand3
+pub mod Tm
+pub mod Edges
+pub mod Total
 pub mod Planes
 pub mod Parts
 pub mod Absent

@@ -1,0 +1,2 @@
+-- Names for the private steps of V and H.
+pub mod Way

@@ -1,0 +1,74 @@
+-- Each promise of `macroblock` admits one answer only. What is promised of an answer about a byte is its reading, `yAnswer` and
+-- its two sisters; no two answers read the same.
+-- Assumes nothing.
+use mathlib.Core.Path.{_≡_, refl, ap}
+use Prim.Native.Nat.{ℕ}
+use native.Mathlib.Omega.{arith}
+use Rattle.lists.proofs.Answer.{OneAnswer, same}
+use Rattle.macroblock.specs.declared.numbers.YModeOf.{YModeOf}
+use Rattle.macroblock.specs.declared.numbers.YModeOf.the-variants as yOf
+use Rattle.macroblock.specs.declared.numbers.UvModeOf.{UvModeOf}
+use Rattle.macroblock.specs.declared.numbers.UvModeOf.the-variants as uvOf
+use Rattle.macroblock.specs.declared.numbers.BModeOf.{BModeOf}
+use Rattle.macroblock.specs.declared.numbers.BModeOf.the-variants as bOf
+use Rattle.macroblock.specs.Modes.{yAnswer, uvAnswer, bAnswer}
+use Rattle.macroblock.proofs.neighbors.MbNeighbors.absent.Reads as absent
+use Rattle.macroblock.proofs.neighbors.MbNeighbors.absent.Kinds as absent-k
+use Rattle.macroblock.proofs.numbers.y_mode_number.Reads as y-mode-number
+use Rattle.macroblock.proofs.numbers.y_mode_number.Kinds as y-mode-number-k
+use Rattle.macroblock.proofs.numbers.uv_mode_number.Reads as uv-mode-number
+use Rattle.macroblock.proofs.numbers.uv_mode_number.Kinds as uv-mode-number-k
+use Rattle.macroblock.proofs.numbers.b_mode_number.Reads as b-mode-number
+use Rattle.macroblock.proofs.numbers.b_mode_number.Kinds as b-mode-number-k
+use Rattle.macroblock.proofs.numbers.y_mode_of.Reads as y-mode-of
+use Rattle.macroblock.proofs.numbers.y_mode_of.Kinds as y-mode-of-k
+use Rattle.macroblock.proofs.numbers.uv_mode_of.Reads as uv-mode-of
+use Rattle.macroblock.proofs.numbers.uv_mode_of.Kinds as uv-mode-of-k
+use Rattle.macroblock.proofs.numbers.b_mode_of.Reads as b-mode-of
+use Rattle.macroblock.proofs.numbers.b_mode_of.Kinds as b-mode-of-k
+
+pub absent-one : OneAnswer 0 absent-k.ps absent-k.r absent.Post
+absent-one κs a x y s t = same
+
+pub y-mode-number-one : OneAnswer 0 y-mode-number-k.ps y-mode-number-k.r y-mode-number.Post
+y-mode-number-one κs a x y s t = same
+
+pub uv-mode-number-one : OneAnswer 0 uv-mode-number-k.ps uv-mode-number-k.r uv-mode-number.Post
+uv-mode-number-one κs a x y s t = same
+
+pub b-mode-number-one : OneAnswer 0 b-mode-number-k.ps b-mode-number-k.r b-mode-number.Post
+b-mode-number-one κs a x y s t = same
+
+-- ---- a reading tells its answer: 0 stands beside the mode itself, and 0 is not 8
+reply : {A : Type 0} {u v : ℕ × A} → u ≡ v → u .0 ≡ v .0
+reply {A} e = ap (λ (x : ℕ × A). x .0) e
+
+mode : {A : Type 0} {u v : ℕ × A} → u ≡ v → u .1 ≡ v .1
+mode {A} e = ap (λ (x : ℕ × A). x .1) e
+
+y-told : (x y : YModeOf) → yAnswer x ≡ yAnswer y → x ≡ y
+y-told (yOf.Mode m) (yOf.Mode k) e = ap yOf.Mode (mode e)
+y-told (yOf.Mode m) yOf.Unknown e = let q = reply e in absurd (omega arith)
+y-told yOf.Unknown (yOf.Mode k) e = let q = reply e in absurd (omega arith)
+y-told yOf.Unknown yOf.Unknown e = refl
+
+pub y-mode-of-one : OneAnswer 0 y-mode-of-k.ps y-mode-of-k.r y-mode-of.Post
+y-mode-of-one κs a x y s t p q = y-told x y (same p q)
+
+uv-told : (x y : UvModeOf) → uvAnswer x ≡ uvAnswer y → x ≡ y
+uv-told (uvOf.Mode m) (uvOf.Mode k) e = ap uvOf.Mode (mode e)
+uv-told (uvOf.Mode m) uvOf.Unknown e = let q = reply e in absurd (omega arith)
+uv-told uvOf.Unknown (uvOf.Mode k) e = let q = reply e in absurd (omega arith)
+uv-told uvOf.Unknown uvOf.Unknown e = refl
+
+pub uv-mode-of-one : OneAnswer 0 uv-mode-of-k.ps uv-mode-of-k.r uv-mode-of.Post
+uv-mode-of-one κs a x y s t p q = uv-told x y (same p q)
+
+b-told : (x y : BModeOf) → bAnswer x ≡ bAnswer y → x ≡ y
+b-told (bOf.Mode m) (bOf.Mode k) e = ap bOf.Mode (mode e)
+b-told (bOf.Mode m) bOf.Unknown e = let q = reply e in absurd (omega arith)
+b-told bOf.Unknown (bOf.Mode k) e = let q = reply e in absurd (omega arith)
+b-told bOf.Unknown bOf.Unknown e = refl
+
+pub b-mode-of-one : OneAnswer 0 b-mode-of-k.ps b-mode-of-k.r b-mode-of.Post
+b-mode-of-one κs a x y s t p q = b-told x y (same p q)

@@ -2,7 +2,7 @@
 --     Turns      every loop: `turns-step` at each turn, `turns-done` at its end
 --     Table      a list filled from the front, read at a place, equal where the rules agree
 --     Rows       the same for a block that is drawn row by row
---     Nested     a loop of loops is one loop, a block is one list
+--     Nested     a loop of loops is one loop
 --     Stores     what stands where after a loop of stores
 --     Parts      a part of a slice, lent to a call
 --     Tests      what a test of several says, and a `match` on a number that reaches its `_`

@@ -8,13 +8,14 @@ use mathlib.Core.Path.{_≡_, refl, sym, ap, subst, _∙_}
 use mathlib.Core.Logic.{⊎-elim}
 use mathlib.Core.List.{List, [], _∷_, _++_, append-nil}
 use Prim.Native.Nat.{ℕ, zero, suc, _+_, _*_, _/_, _%_, _<_, _≤_}
-use native.Mathlib.Nat.{eq-or-lt-of-le, le-of-suc-le-suc, not-suc-le-zero, le-refl, le-of-lt, le-of-eq, add-zero, mul-add-div-right, mul-add-mod-self-right, div-eq-of-lt, mod-eq-of-lt, div-add-mod'}
+use native.Mathlib.Nat.{eq-or-lt-of-le, le-of-suc-le-suc, not-suc-le-zero, le-refl, le-of-lt, le-of-eq, add-zero, mul-add-div-right, mul-add-mod-self-right, div-eq-of-lt, mod-eq-of-lt}
 use native.Mathlib.Omega.{arith}
 use lib.ListN.{length, getD, set, drop, length-set}
 use lib.Seq.{getD-set-same, getD-set-other, drop-cons, drop-length, getD-at, set-at, append-snoc}
 use Rattle.lists.specs.Lists.{table, rows, turns, store}
-use Rattle.lists.proofs.Table.{table-length, table-ext}
-use Rattle.lists.proofs.Nested.{turns-ext, turns-rows, rows-table}
+use Rattle.lists.proofs.Table.{table-length}
+use Rattle.lists.proofs.Rows.{rows-flat}
+use Rattle.lists.proofs.Nested.{turns-ext, turns-rows}
 
 module _ {A : Type 0} (at : ℕ → ℕ) (v : ℕ → A) where
   pub stores-length : (n : ℕ) (l : List A) → length (turns n (store at v) l) ≡ length l
@@ -73,8 +74,7 @@ module _ {A : Type 0} (d : A) (w h : ℕ) (f : ℕ → ℕ → A → A) (z : Lis
       turns-ext h eachRow (λ r. turns w (λ c. each d flat z (r * w + c))) z (λ r y p. turns-ext w _ _ y (λ c xs k. rw (row r c k, column r c k)))
       ∙ sym (turns-rows w h (each d flat z) z)
       ∙ each-all d flat z (h * w) e
-      ∙ table-ext (h * w) (λ k. flat k (getD z k d)) (λ k. flat k (getD z (k / w * w + k % w) d)) (λ k p. rw (div-add-mod' k w))
-      ∙ sym (rows-table w h (λ r c. f r c (getD z (r * w + c) d)) l)
+      ∙ sym (rows-flat w h (λ r c. f r c (getD z (r * w + c) d)) (λ k. flat k (getD z k d)) (λ r c p k. rw (row r c k, column r c k)))
     where
       flat : ℕ → A → A
       flat k = f (k / w) (k % w)

@@ -5,83 +5,53 @@ use mathlib.Core.Path.{_≡_, refl, ap, _∙_}
 use mathlib.Core.Bool.{Bool, true, false}
 use mathlib.Core.List.{List}
 use lib.IntN.{ℤ}
-use Rattle.lists.specs.Lists.{pick, rows}
 use Rattle.macroblock.specs.declared.modes.IntraYMode.{IntraYMode}
-use Rattle.macroblock.specs.declared.modes.IntraYMode.the-variants as y
 use Rattle.macroblock.specs.declared.modes.IntraUvMode.{IntraUvMode}
-use Rattle.macroblock.specs.declared.modes.IntraUvMode.the-variants as uv
 use Rattle.macroblock.specs.declared.modes.IntraBmode.{IntraBmode}
 use Rattle.macroblock.specs.declared.neighbors.MbNeighbors.{MbNeighbors}
-use Rattle.rfc6386.specs.Edges.{edgeOr, pixelOr, aboveOr, leftOr, dcPixel, vPixel, hPixel, tmPixel, dcBlock, vBlock, hBlock, tmBlock, predictUv, predictY}
-use Rattle.rfc6386.specs.Walk.{seeded, blockAt, plane, yPrediction, uPrediction, vPrediction, yWhole, uPlane, vPlane, bordered, startOf, walked, lumaOf, yParts}
+use Rattle.rfc6386.specs.Edges.{edgeOr, pixelOr, aboveOr, leftOr, predictUv, predictY}
+use Rattle.rfc6386.specs.Walk.{seeded, blockAt, plane, yPrediction, uPrediction, vPrediction, yWhole, uPlane, vPlane, startOf, walked, lumaOf, yParts}
+use Rattle.rfc6386.proofs.Edges.{y-above-unread, y-left-unread, uv-above-unread, uv-left-unread}
 
 -- an edge, or a pixel, and its mark: the same mark, and the same pixels where it is there
 pub record Same {A : Type 0} (x : A) (there : Bool) (y : A) (too : Bool) : Type 0 where
   pub mark : there ≡ too
   pub pixels : there ≡ true → x ≡ y
 
-module _ {A : Type 0} where
-  picked : (t : Bool) (x y z : A) → (t ≡ true → x ≡ y) → pick t x z ≡ pick t y z
-  picked true x y z h = h refl
-  picked false x y z h = refl
+-- what does not read an absent edge
+module _ {A B : Type 0} (f : A → Bool → B) (unread : (x y : A) → f x false ≡ f y false) where
+  by-mark : (t : Bool) (x y : A) → (t ≡ true → x ≡ y) → f x t ≡ f y t
+  by-mark true x y h = ap (λ (z : A). f z true) (h refl)
+  by-mark false x y h = unread x y
 
-  pick-same : {x y : A} {t s : Bool} (z : A) → Same x t y s → pick t x z ≡ pick s y z
-  pick-same {x} {y} {t} {s} z e = picked t x y z (e .pixels) ∙ ap (λ (b : Bool). pick b y z) (e .mark)
+  pub same : {x y : A} {t s : Bool} → Same x t y s → f x t ≡ f y s
+  same {x} {y} {t} {s} e = by-mark t x y (e .pixels) ∙ ap (λ (b : Bool). f y b) (e .mark)
 
 pub pixel-same : (v : ℕ) {p q : ℕ} {t s : Bool} → Same p t q s → pixelOr v p t ≡ pixelOr v q s
 unfolding pixelOr
-pixel-same v e = pick-same v e
+pixel-same v = same (pixelOr v) (λ x y. refl)
 
--- ---- one edge's pixels, and the blocks that are predicted from two
 module _ (n : ℕ) {a b : List ℕ} {t s : Bool} (e : Same a t b s) where
   pub above-same : aboveOr n a t ≡ aboveOr n b s
   unfolding aboveOr edgeOr
-  above-same = pick-same _ e
+  above-same = same (aboveOr n) (λ x y. refl) e
 
   pub left-same : leftOr n a t ≡ leftOr n b s
   unfolding leftOr edgeOr
-  left-same = pick-same _ e
-
-  v-same : vBlock n a t ≡ vBlock n b s
-  unfolding vBlock
-  v-same = ap (λ (x : List ℕ). rows n n (vPixel x)) above-same
-
-  h-same : hBlock n a t ≡ hBlock n b s
-  unfolding hBlock
-  h-same = ap (λ (x : List ℕ). rows n n (hPixel x)) left-same
-
-dc-by : (n : ℕ) (a b l m : List ℕ) (t s : Bool) → (t ≡ true → a ≡ b) → (s ≡ true → l ≡ m) → dcPixel n a t l s ≡ dcPixel n b t m s
-unfolding dcPixel
-dc-by n a b l m true true h k = rw (h refl, k refl)
-dc-by n a b l m true false h k = rw (h refl)
-dc-by n a b l m false true h k = rw (k refl)
-dc-by n a b l m false false h k = refl
-
-module _ (n : ℕ) {a b l m : List ℕ} {t s u w : Bool} (e : Same a t b s) (f : Same l u m w) where
-  dc-same : dcBlock n a t l u ≡ dcBlock n b s m w
-  unfolding dcBlock
-  dc-same =
-      ap (λ (x : ℕ). rows n n (λ r c. x)) (dc-by n a b l m t u (e .pixels) (f .pixels) ∙ rw (e .mark, f .mark))
-
-  tm-same : {p q : ℕ} → p ≡ q → tmBlock n a t l u p ≡ tmBlock n b s m w q
-  unfolding tmBlock
-  tm-same g = rw (above-same n e, left-same n f, g)
+  left-same = same (leftOr n) (λ x y. refl) e
 
 module _ {a b l m : List ℕ} {t s u w : Bool} {p q : ℕ} (e : Same a t b s) (f : Same l u m w) (g : p ≡ q) where
   pub uv-same : (mode : IntraUvMode) → predictUv mode a t l u p ≡ predictUv mode b s m w q
-  unfolding predictUv
-  uv-same uv.Dc = dc-same 8 e f
-  uv-same uv.«V» = v-same 8 e
-  uv-same uv.H = h-same 8 f
-  uv-same uv.Tm = tm-same 8 e f g
+  uv-same mode =
+      same (λ x z. predictUv mode x z l u p) (λ x y. uv-above-unread mode x y l u p) e
+      ∙ same (λ x z. predictUv mode b s x z p) (λ x y. uv-left-unread mode b s x y p) f
+      ∙ ap (λ (x : ℕ). predictUv mode b s m w x) g
 
   pub y-same : (mode : IntraYMode) → predictY mode a t l u p ≡ predictY mode b s m w q
-  unfolding predictY
-  y-same y.Dc = dc-same 16 e f
-  y-same y.«V» = v-same 16 e
-  y-same y.H = h-same 16 f
-  y-same y.Tm = tm-same 16 e f g
-  y-same y.B = refl
+  y-same mode =
+      same (λ x z. predictY mode x z l u p) (λ x y. y-above-unread mode x y l u p) e
+      ∙ same (λ x z. predictY mode b s x z p) (λ x y. y-left-unread mode b s x y p) f
+      ∙ ap (λ (x : ℕ). predictY mode b s m w x) g
 
 -- ---- two records
 pub record SameEdges (m n : MbNeighbors) : Type 0 where

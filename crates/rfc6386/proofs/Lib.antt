@@ -13,6 +13,8 @@
 --     Planes       a plane predicted whole: one pixel, what it depends on
 --     Parts        the luma of mode B: a pixel of sub-block k is the one that turn k put
 --     Absent       the bytes of an absent edge are read nowhere
+--     Unused       what changes no plane: the coefficients of a skipped macroblock, a seeded block's own first coefficient
+--     Demand3Planes   demand 3 of each pixel of a plane, and of a sub-block
 pub mod Quantiser
 pub mod Wht
 pub mod DctPass
@@ -27,3 +29,5 @@ pub mod Total
 pub mod Planes
 pub mod Parts
 pub mod Absent
+pub mod Unused
+pub mod Demand3Planes

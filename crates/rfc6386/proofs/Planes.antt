@@ -1,13 +1,12 @@
 -- A plane that is predicted whole and then has its blocks' residues added.
 --     plane-skipped, plane-coded   by the skip flag
 --     added-at                     one pixel: the prediction's, with its block's residue added
---     added-ext                    a plane depends on the sixteen coefficients of each of its blocks only
+--     added-ext, plane-ext         a plane depends on the sixteen coefficients of each of its blocks only
 --     iwht-ext                     the inverse WHT depends on the first sixteen coefficients only
---     seeded-first, seeded-own     the sixteen coefficients of a seeded block
 -- Assumes nothing.
 use Prim.Native.Nat.{ℕ, zero, suc, _+_, _*_, _/_, _%_, _<_}
 use mathlib.Core.Path.{_≡_, refl, ap, _∙_}
-use mathlib.Core.Bool.{true, false}
+use mathlib.Core.Bool.{Bool, true, false}
 use mathlib.Core.List.{List}
 use native.Mathlib.Omega.{arith}
 use lib.Dec.{lit<}
@@ -43,6 +42,13 @@ added-ext n p x y e =
     rows-ext n n _ _ λ r c l m.
     ap (λ (z : ℤ). sum (getD p (r * n + c) 0) z)
     (residue-ext (x (n / 4 * (r / 4) + c / 4)) (y (n / 4 * (r / 4) + c / 4)) (λ k h. e r c k l m h) (r % 4) (c % 4))
+
+pub plane-ext : (n : ℕ) (skip : Bool) (p : List ℕ) (x y : ℕ → ℕ → ℤ)
+    → ((r c k : ℕ) → r < n → c < n → k < 16 → x (n / 4 * (r / 4) + c / 4) k ≡ y (n / 4 * (r / 4) + c / 4) k)
+    → plane n skip p x ≡ plane n skip p y
+unfolding plane
+plane-ext n true p x y e = refl
+plane-ext n false p x y e = added-ext n p x y e
 
 pub iwht-ext : (l m : List ℤ) → ((k : ℕ) → k < 16 → getD l k (pos 0) ≡ getD m k (pos 0)) → iwht l ≡ iwht m
 unfolding iwht whtAt whtColumn

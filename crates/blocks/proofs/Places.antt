@@ -4,12 +4,16 @@ use mathlib.Core.Path.{_≡_, _∙_}
 use mathlib.Core.List.{List}
 use native.Mathlib.Omega.{arith}
 use lib.IntN.{ℤ, pos}
-use lib.ListN.{getD}
-use Rattle.lists.proofs.Table.{table-at}
+use lib.ListN.{length, getD}
+use Rattle.lists.proofs.Table.{table-length, table-at}
 use Rattle.rfc6386.specs.Dct.{residue, entry, idctFour}
 use Rattle.rfc6386.specs.Walk.{blockAt}
 use Rattle.rfc6386.proofs.DctBlocks.{residue-ext, four-at}
 use Rattle.blocks.specs.Taken.{taken, residuesFrom}
+
+pub taken-length : (n : ℕ) (coeffs : List ℤ) (at : ℕ) → length (taken n coeffs at) ≡ n
+unfolding taken
+taken-length n coeffs at = table-length n (λ k. getD coeffs (at + k) (pos 0))
 
 pub taken-at : (n : ℕ) (coeffs : List ℤ) (at k : ℕ) → k < n → entry (taken n coeffs at) k ≡ getD coeffs (at + k) (pos 0)
 unfolding taken

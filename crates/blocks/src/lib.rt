@@ -35,26 +35,45 @@ fn coefficient(coeffs: &[i16], at: usize, k: usize) -> i16
     coeffs[at + k]
 }
 
-// Four blocks, of which some may lie past the slice's end.
-fn padded(coeffs: &[i16], at: usize) -> [i16; 64]
-    ensures { λ r. ⌜ r ≡ taken 64 (now (coeffs .entry)) at ⌝ }
+// As many as `out` has, of which some may lie past the slice's end.
+fn take_padded(out: &mut [i16], coeffs: &[i16], at: usize)
+    ensures { λ _. ⌜ now (out .exit) ≡ taken (length (now (out .entry))) (now (coeffs .entry)) at ⌝ }
 {
-    let mut out = [0i16; 64];
-    for k in 0..64 {
+    for k in 0..out.len() {
         out[k] = coefficient(coeffs, at, k);
     }
-    out
 }
 
-// Four blocks that lie in the slice.
-fn copied(coeffs: &[i16], at: usize) -> [i16; 64]
-    requires { ⌜ at + 64 ≤ length (now coeffs) ⌝ }
-    ensures { λ r. ⌜ r ≡ taken 64 (now (coeffs .entry)) at ⌝ }
+// As many as `out` has, all of which lie in the slice.
+fn take_all(out: &mut [i16], coeffs: &[i16], at: usize)
+    requires { ⌜ at + length (now out) ≤ length (now coeffs) ⌝ }
+    ensures { λ _. ⌜ now (out .exit) ≡ taken (length (now (out .entry))) (now (coeffs .entry)) at ⌝ }
 {
-    let mut out = [0i16; 64];
-    for k in 0..64 {
+    for k in 0..out.len() {
         out[k] = coeffs[at + k];
     }
+}
+
+fn take(out: &mut [i16], coeffs: &[i16], at: usize)
+    ensures { λ _. ⌜ now (out .exit) ≡ taken (length (now (out .entry))) (now (coeffs .entry)) at ⌝ }
+{
+    if coeffs.len() < at {
+        take_padded(out, coeffs, at);
+        return;
+    }
+    if coeffs.len() - at < out.len() {
+        take_padded(out, coeffs, at);
+        return;
+    }
+    take_all(out, coeffs, at);
+}
+
+// The block at the start; 0 where the slice has ended.
+pub fn first(coeffs: &[i16]) -> [i16; 16]
+    ensures { λ r. ⌜ r ≡ taken 16 (now (coeffs .entry)) 0 ⌝ }
+{
+    let mut out = [0i16; 16];
+    take(&mut out, coeffs, 0);
     out
 }
 
@@ -62,13 +81,9 @@ fn copied(coeffs: &[i16], at: usize) -> [i16; 64]
 pub fn four(coeffs: &[i16], at: usize) -> [i16; 64]
     ensures { λ r. ⌜ r ≡ taken 64 (now (coeffs .entry)) at ⌝ }
 {
-    if coeffs.len() < at {
-        return padded(coeffs, at);
-    }
-    if coeffs.len() - at < 64 {
-        return padded(coeffs, at);
-    }
-    copied(coeffs, at)
+    let mut out = [0i16; 64];
+    take(&mut out, coeffs, at);
+    out
 }
 
 // The residues of the four blocks from `at` on, side by side.

@@ -6,7 +6,8 @@ use lib.IntN.{ℤ, pos}
 use lib.ListN.{replicate}
 use Rattle.lists.specs.Lists.{table, rows, turns}
 use Rattle.rfc6386.specs.Dct.{column, passes, residue, idct, idctFour}
-use Rattle.dct.specs.Lines.{lineOf, rowOf, columnTurn, rowTurn, widened, besides}
+use Rattle.dct_line.specs.Lines.{lineOf, rowOf}
+use Rattle.dct.specs.Turns.{columnTurn, rowTurn, widened, besides}
 
 one : (l : List ℤ) → turns 4 (rowTurn (turns 4 (columnTurn 4 (widened 16 0 0 l (replicate 16 (pos 0)))) (replicate 16 (pos 0)))) (replicate 16 (pos 0)) ≡ idct l
 unfolding turns table rows lineOf rowOf columnTurn rowTurn widened idct residue passes column

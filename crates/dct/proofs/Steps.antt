@@ -7,9 +7,17 @@ use lib.IntN.{ℤ}
 use lib.Signed.{mag}
 use Rattle.whole.proofs.Held.{R16, R32, held16, held32}
 use Rattle.rfc6386.specs.Dct.{entry}
-use Rattle.dct.specs.declared.Four.{Four}
-use Rattle.dct.specs.declared.Short.{Short}
-use Rattle.dct.specs.Lines.{lineOf, rowOf, stored, columnTurn, rowTurn}
+use Rattle.dct_line.specs.declared.Four.{Four}
+use Rattle.dct_line.specs.declared.Short.{Short}
+use Rattle.dct_line.specs.Lines.{lineOf, rowOf}
+use Rattle.dct.specs.Turns.{stored, columnTurn, rowTurn}
+
+-- held by 32 bits, and by 16
+abbrev Word : ℤ → Type 0
+Word z = mag z < 2147483648
+
+abbrev Half : ℤ → Type 0
+Half z = mag z < 32768
 
 stored-same : (i0 i1 i2 i3 : ℕ) (l : List ℤ) {u0 u1 u2 u3 v0 v1 v2 v3 : ℤ} → u0 ≡ v0 → u1 ≡ v1 → u2 ≡ v2 → u3 ≡ v3
     → stored i0 i1 i2 i3 u0 u1 u2 u3 l ≡ stored i0 i1 i2 i3 v0 v1 v2 v3 l
@@ -17,8 +25,8 @@ stored-same i0 i1 i2 i3 l p q r s = rw (p, q, r, s)
 
 pub column-turned : (w j : ℕ) (s t : List ℤ) (f : Four)
     → f ≡ lineOf (R32 (entry s j)) (R32 (entry s (j + w))) (R32 (entry s (j + w + w))) (R32 (entry s (j + w + w + w)))
-    → mag (entry s j) < 2147483648 → mag (entry s (j + w)) < 2147483648 → mag (entry s (j + w + w)) < 2147483648 → mag (entry s (j + w + w + w)) < 2147483648
-    → mag (f .x0) < 2147483648 → mag (f .x1) < 2147483648 → mag (f .x2) < 2147483648 → mag (f .x3) < 2147483648
+    → Word (entry s j) → Word (entry s (j + w)) → Word (entry s (j + w + w)) → Word (entry s (j + w + w + w))
+    → Word (f .x0) → Word (f .x1) → Word (f .x2) → Word (f .x3)
     → stored j (j + w) (j + w + w) (j + w + w + w) (R32 (f .x0)) (R32 (f .x1)) (R32 (f .x2)) (R32 (f .x3)) t ≡ columnTurn w s j t
 unfolding columnTurn
 column-turned w j s t f e h0 h1 h2 h3 k0 k1 k2 k3 =
@@ -28,8 +36,8 @@ column-turned w j s t f e h0 h1 h2 h3 k0 k1 k2 k3 =
 
 pub row-turned : (q : ℕ) (t o : List ℤ) (f : Short)
     → f ≡ rowOf (R32 (entry t (4 * q))) (R32 (entry t (4 * q + 1))) (R32 (entry t (4 * q + 2))) (R32 (entry t (4 * q + 3)))
-    → mag (entry t (4 * q)) < 2147483648 → mag (entry t (4 * q + 1)) < 2147483648 → mag (entry t (4 * q + 2)) < 2147483648 → mag (entry t (4 * q + 3)) < 2147483648
-    → mag (f .y0) < 32768 → mag (f .y1) < 32768 → mag (f .y2) < 32768 → mag (f .y3) < 32768
+    → Word (entry t (4 * q)) → Word (entry t (4 * q + 1)) → Word (entry t (4 * q + 2)) → Word (entry t (4 * q + 3))
+    → Half (f .y0) → Half (f .y1) → Half (f .y2) → Half (f .y3)
     → stored (4 * q) (4 * q + 1) (4 * q + 2) (4 * q + 3) (R16 (f .y0)) (R16 (f .y1)) (R16 (f .y2)) (R16 (f .y3)) o ≡ rowTurn t q o
 unfolding rowTurn
 row-turned q t o f e h0 h1 h2 h3 k0 k1 k2 k3 =

@@ -1,2 +1,2 @@
 -- Names for the steps of the inverse DCT in this crate.
-pub mod Lines
+pub mod Turns

@@ -6,7 +6,7 @@ use borrow.Author.Needs.{needs}
 use lib.ListN.{length}
 use Rattle.lists.specs.Lists.{turns}
 use Rattle.lists.proofs.Turns.{turns-step, turns-done}
-use Rattle.dct.specs.Lines.{besideTurn, besides}
+use Rattle.dct.specs.Turns.{besideTurn, besides}
 use Rattle.dct.proofs.beside.Statement.{statement}
 use Rattle.dct.proofs.beside.Tie as tie
 

@@ -6,7 +6,7 @@ use borrow.Author.Needs.{needs}
 use lib.ListN.{length}
 use Rattle.lists.specs.Lists.{turns}
 use Rattle.lists.proofs.Turns.{turns-step, turns-done}
-use Rattle.dct.specs.Lines.{columnTurn}
+use Rattle.dct.specs.Turns.{columnTurn}
 use Rattle.dct.proofs.columns.Statement.{statement}
 use Rattle.dct.proofs.columns.Tie as tie
 

@@ -6,7 +6,7 @@ use borrow.Author.Needs.{needs}
 use lib.ListN.{length}
 use Rattle.lists.specs.Lists.{turns}
 use Rattle.lists.proofs.Turns.{turns-step, turns-done}
-use Rattle.dct.specs.Lines.{rowTurn}
+use Rattle.dct.specs.Turns.{rowTurn}
 use Rattle.dct.proofs.rows.Statement.{statement}
 use Rattle.dct.proofs.rows.Tie as tie
 

@@ -7,7 +7,7 @@ use Rattle.lists.specs.Lists.{turns, store}
 use Rattle.lists.proofs.Turns.{turns-step, turns-done}
 use Rattle.whole.proofs.Held.{held16, held32}
 use Rattle.rfc6386.specs.Dct.{entry}
-use Rattle.dct.specs.Lines.{widened}
+use Rattle.dct.specs.Turns.{widened}
 use Rattle.dct.proofs.widen_into.Statement.{statement}
 use Rattle.dct.proofs.widen_into.Tie as tie
 

@@ -1,5 +1,4 @@
--- The steps of the inverse DCT as the code takes them: a pass on four numbers, and the turns of its loops on rows of w numbers.
--- Four blocks side by side, w = 16: row i of block b is at 16 i + 4 b.
+-- The turns of the inverse DCT's loops, on rows of w numbers. Four blocks side by side, w = 16: row i of block b is at 16 i + 4 b.
 --
 --        block 0  block 1  block 2  block 3
 --        0 .. 3   4 .. 7   8 .. 11  12 .. 15     row 0 of each
@@ -8,35 +7,11 @@
 --        48 ..    52 ..    56 ..    60 ..        row 3
 use Prim.Native.Nat.{ℕ, _+_, _*_, _/_, _%_}
 use mathlib.Core.List.{List}
-use lib.IntN.{ℤ, pos, _+ℤ_, _-ℤ_}
+use lib.IntN.{ℤ, pos}
 use lib.ListN.{set, replicate}
-use Rattle.whole.specs.Whole.{wrap}
 use Rattle.lists.specs.Lists.{turns, store}
-use Rattle.rfc6386.specs.Dct.{bySin, byCos, pass, wrapped, rounded, entry}
-use Rattle.dct.specs.declared.Four.{Four}
-use Rattle.dct.specs.declared.Short.{Short}
-
-unfoldable pub oddDifference : ℤ → ℤ → ℤ
-oddDifference i4 i12 = wrap (bySin i4 -ℤ byCos i12)
-
-unfoldable pub oddSum : ℤ → ℤ → ℤ
-oddSum i4 i12 = wrap (byCos i4 +ℤ bySin i12)
-
--- the four results of a pass
-unfoldable pub lineOf : ℤ → ℤ → ℤ → ℤ → Four
-lineOf i0 i4 i8 i12 =
-    record {
-      x0 = pass wrapped 0 i0 i4 i8 i12;
-      x1 = pass wrapped 1 i0 i4 i8 i12;
-      x2 = pass wrapped 2 i0 i4 i8 i12;
-      x3 = pass wrapped 3 i0 i4 i8 i12;
-    }
-
--- the same, each with the closing rounding
-unfoldable pub rowOf : ℤ → ℤ → ℤ → ℤ → Short
-rowOf i0 i1 i2 i3 =
-    let f = lineOf i0 i1 i2 i3 in
-    record { y0 = rounded (f .x0); y1 = rounded (f .x1); y2 = rounded (f .x2); y3 = rounded (f .x3) }
+use Rattle.rfc6386.specs.Dct.{entry}
+use Rattle.dct_line.specs.Lines.{lineOf, rowOf}
 
 -- four numbers stored at i0, i1, i2, i3
 abbrev pub stored : ℕ → ℕ → ℕ → ℕ → ℤ → ℤ → ℤ → ℤ → List ℤ → List ℤ

@@ -1,9 +1,9 @@
--- `dct::row` meets its contract. Assumes nothing.
+-- `dct_line::row` meets its contract. Assumes nothing.
 use mir.Facts.{toZ-ofZ}
 use Rattle.whole.proofs.Held.{held32, held16}
-use Rattle.dct.specs.Lines.{rowOf}
-use Rattle.dct.proofs.row.Statement.{statement}
-use Rattle.dct.proofs.row.Tie as tie
+use Rattle.dct_line.specs.Lines.{rowOf}
+use Rattle.dct_line.proofs.row.Statement.{statement}
+use Rattle.dct_line.proofs.row.Tie as tie
 
 returns : tie.Need-returns
 unfolding rowOf

@@ -1,10 +1,10 @@
--- `dct::line` meets its contract. Assumes nothing.
+-- `dct_line::line` meets its contract. Assumes nothing.
 use mir.Facts.{toZ-ofZ}
 use Rattle.whole.proofs.Held.{held32}
 use Rattle.rfc6386.specs.Dct.{pass}
-use Rattle.dct.specs.Lines.{oddSum, oddDifference, lineOf}
-use Rattle.dct.proofs.line.Statement.{statement}
-use Rattle.dct.proofs.line.Tie as tie
+use Rattle.dct_line.specs.Lines.{oddSum, oddDifference, lineOf}
+use Rattle.dct_line.proofs.line.Statement.{statement}
+use Rattle.dct_line.proofs.line.Tie as tie
 
 returns : tie.Need-returns
 unfolding lineOf pass oddSum oddDifference
@@ -33,7 +33,9 @@ returns c =
     )
 
 pub line-spec : {M : Type 1} → statement M
-line-spec = tie.close (tie.spec
+line-spec =
+    tie.close
+    (tie.spec
     (λ c κs. tt)
     (λ c κs. tt)
     (λ c κs. tt)

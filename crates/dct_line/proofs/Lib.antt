@@ -1,0 +1,2 @@
+-- One answer only, of each public function.
+pub mod OneAnswer

@@ -1,0 +1,2 @@
+-- The definitions that the contracts of `dct_line` cite.
+pub mod Lines

@@ -9,7 +9,7 @@ use lib.IntN.{ℤ, pos}
 use lib.ListN.{length, getD}
 use Rattle.lists.specs.Lists.{turns}
 use Rattle.lists.proofs.Rows.{rows-ext, rows-flat}
-use Rattle.lists.proofs.Stores.{rows-each}
+use Rattle.lists.proofs.Each.{rows-each}
 use Rattle.rfc6386.specs.Dct.{residue, idctFour}
 use Rattle.rfc6386.specs.Residue.{sum}
 use Rattle.rfc6386.specs.Walk.{blockAt, seeded, addedBlocks}

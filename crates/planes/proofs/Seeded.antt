@@ -6,7 +6,7 @@ use native.Mathlib.Omega.{arith}
 use lib.IntN.{ℤ, pos}
 use lib.ListN.{getD, take}
 use lib.Seq.{getD-take}
-use Rattle.lists.proofs.Stores.{stores-outside, stores-inside}
+use Rattle.lists.proofs.Updates.{updates-outside, updates-inside}
 use Rattle.rfc6386.specs.Wht.{iwht}
 use Rattle.rfc6386.specs.Dct.{residue, entry, idctFour}
 use Rattle.rfc6386.specs.Walk.{seeded}
@@ -32,11 +32,11 @@ module _ (coeffs : List ℤ) (i : ℕ) (hi : i < 4) where
   seeded-at b zero hb hk =
       let z : 16 * b + 0 ≡ 16 * b = omega arith in
       rw z
-      (stores-inside (λ j. 16 * j) (λ j. getD (iwht (take 16 coeffs)) (4 * i + j) (pos 0)) 4 (taken 64 coeffs (16 + 64 * i)) b (pos 0)
+      (updates-inside (pos 0) (λ j. 16 * j) (λ j x. getD (iwht (take 16 coeffs)) (4 * i + j) (pos 0)) 4 (taken 64 coeffs (16 + 64 * i)) b
       (λ x y p q e. omega arith) hb (rw taken-length (omega arith)))
   seeded-at b (suc k) hb hk =
       let z : 16 + 64 * i + (16 * b + suc k) ≡ 16 + 16 * (4 * i + b) + suc k = omega arith in
-      stores-outside (λ j. 16 * j) (λ j. getD (iwht (take 16 coeffs)) (4 * i + j) (pos 0)) 4 (taken 64 coeffs (16 + 64 * i)) (16 * b + suc k) (pos 0)
+      updates-outside (pos 0) (λ j. 16 * j) (λ j x. getD (iwht (take 16 coeffs)) (4 * i + j) (pos 0)) 4 (taken 64 coeffs (16 + 64 * i)) (16 * b + suc k)
       (λ j l e. omega arith)
       ∙ taken-at 64 coeffs (16 + 64 * i) (16 * b + suc k) (omega arith) ∙ rw z
 

@@ -36,7 +36,10 @@ module _ (n s r c : ℕ) where
       omega arith
 
   -- a block that lies in the plane: its first row, its first pixel, and three rows and four pixels after that are within
-  pub lies-room : lies n s r c ≡ true → (4 * r ≤ n) × (4 * r * s + 4 * c + (3 * s + 4) ≤ n)
+  abbrev pub Room : Type 0
+  Room = (4 * r ≤ n) × (4 * r * s + 4 * c + (3 * s + 4) ≤ n)
+
+  pub lies-room : lies n s r c ≡ true → Room
   lies-room e =
       let h = lies-says e in
       let z : 1 ≤ s = omega arith in

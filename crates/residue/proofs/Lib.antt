@@ -4,8 +4,14 @@
 --     AcFree        the test for AC coefficients
 --     Part          sums made in the part of a plane that starts at the block, said of the plane
 --     Answers       what a public function answers and leaves, by the outcome of its test
+--     Accepted      a block is accepted exactly by the rule in whole numbers without bound
+--     Pixels        the plane after a block's residue is added, byte by byte
+--     OneAnswer     each public promise admits one answer only
 pub mod Sums
 pub mod Geometry
 pub mod AcFree
 pub mod Part
 pub mod Answers
+pub mod Accepted
+pub mod Pixels
+pub mod OneAnswer

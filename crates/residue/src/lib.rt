@@ -3,6 +3,7 @@ ghost use mathlib.Core.Path.{_≡_};
 ghost use lib.ListN.{length};
 ghost use Rattle.rfc6386.specs.Residue.{sum, summed};
 ghost use Rattle.residue.specs.Answer.{sameLengths, residueReply, residueAdded};
+
 mod plane;
 
 pub use plane::inverse_dct_4x4_add_into;
@@ -47,10 +48,8 @@ fn add_all(prediction: &[u8], residue: &[i16], out: &mut [u8])
 
 // Any number of pixels. Reply 1, and nothing written, unless the three lengths are equal.
 pub fn add_residue(prediction: &[u8], residue: &[i16], out: &mut [u8]) -> u32
-    ensures {
-        λ r. ⌜ (r ≡ residueReply (length (now (prediction .entry))) (length (now (residue .entry))) (length (now (out .entry))))
-            × (now (out .exit) ≡ residueAdded (now (prediction .entry)) (now (residue .entry)) (now (out .entry))) ⌝
-    }
+    ensures { λ r. ⌜ (r ≡ residueReply (length (now (prediction .entry))) (length (now (residue .entry))) (length (now (out .entry))))
+        × (now (out .exit) ≡ residueAdded (now (prediction .entry)) (now (residue .entry)) (now (out .entry))) ⌝ }
 {
     if same_lengths(prediction.len(), residue.len(), out.len()) {
         add_all(prediction, residue, out);

@@ -77,10 +77,8 @@ pub fn inverse_dct_4x4_add_into(
     sub_row: usize,
     sub_col: usize,
 ) -> u32
-    ensures {
-        λ r. ⌜ (r ≡ addReply (length (now (plane .entry))) stride «sub_row» «sub_col»)
-            × (now (plane .exit) ≡ addedInto input stride «sub_row» «sub_col» (now (plane .entry))) ⌝
-    }
+    ensures { λ r. ⌜ (r ≡ addReply (length (now (plane .entry))) stride «sub_row» «sub_col»)
+        × (now (plane .exit) ≡ addedInto input stride «sub_row» «sub_col» (now (plane .entry))) ⌝ }
 {
     if block_lies(plane.len(), stride, sub_row, sub_col) {
         let at = 4 * sub_row * stride + 4 * sub_col;

@@ -17,7 +17,7 @@ use Rattle.lists.specs.Lists.{turns, store}
 use Rattle.lists.proofs.Turns.{turns-keep}
 use Rattle.lists.proofs.Nested.{turns-add}
 use Rattle.lists.proofs.Rows.{rows-at}
-use Rattle.lists.proofs.Stores.{stores-length, stores-outside, stores-inside}
+use Rattle.lists.proofs.Updates.{updates-length, updates-outside, updates-inside}
 use Rattle.macroblock.specs.declared.modes.IntraBmode.{IntraBmode}
 use Rattle.macroblock.specs.declared.neighbors.MbNeighbors.{MbNeighbors}
 use Rattle.rfc6386.specs.Walk.{blockAt, laid, blank, copiedDown, bordered, startOf, cornerOf, subPrediction, subPixels, putBlock, subBlock, walked, lumaOf, yParts}
@@ -29,15 +29,15 @@ pixelAt at i = at + 21 * (i / 4) + i % 4
 
 pub put-length : (at : ℕ) (px b : List ℕ) → length (putBlock at px b) ≡ length b
 unfolding putBlock
-put-length at px b = stores-length (pixelAt at) (λ i. getD px i 0) 16 b
+put-length at px b = updates-length 0 (pixelAt at) (λ i x. getD px i 0) 16 b
 
 pub put-outside : (at : ℕ) (px b : List ℕ) (j : ℕ) → ((i : ℕ) → i < 16 → j ≡ pixelAt at i → ⊥) → getD (putBlock at px b) j 0 ≡ getD b j 0
 unfolding putBlock
-put-outside at px b j h = stores-outside (pixelAt at) (λ i. getD px i 0) 16 b j 0 h
+put-outside at px b j h = updates-outside 0 (pixelAt at) (λ i x. getD px i 0) 16 b j h
 
 pub put-inside : (at : ℕ) (px b : List ℕ) (i : ℕ) → i < 16 → at + 66 < length b → getD (putBlock at px b) (pixelAt at i) 0 ≡ getD px i 0
 unfolding putBlock
-put-inside at px b i l h = stores-inside (pixelAt at) (λ i. getD px i 0) 16 b i 0 (λ x y p q e. omega arith) l (omega arith)
+put-inside at px b i l h = updates-inside 0 (pixelAt at) (λ i x. getD px i 0) 16 b i (λ x y p q e. omega arith) l (omega arith)
 
 -- ---- the sixteen sub-blocks
 -- a row and a column say the place, in rows of 21 and in rows of 4
@@ -97,7 +97,7 @@ module _ (modes : List IntraBmode) (skip : Bool) (coeffs : List ℤ) where
 -- ---- the buffer's length, and the luma
 laid-length : (n at step : ℕ) (s b : List ℕ) → length (laid n at step s b) ≡ length b
 unfolding laid
-laid-length n at step s b = stores-length (λ i. at + i * step) (λ i. getD s i 0) n b
+laid-length n at step s b = updates-length 0 (λ i. at + i * step) (λ i x. getD s i 0) n b
 
 pub start-length : (n : MbNeighbors) → length (startOf n) ≡ 357
 unfolding startOf bordered copiedDown blank

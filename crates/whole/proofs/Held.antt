@@ -4,7 +4,7 @@
 --     elem16           an element of an array of 16-bit numbers, from what is known of the array: `elem16 (c .args .xs) (c .good .0 .0) k (c .good .0 .1 .1)`
 --     add64 ..         two 32-bit numbers: their sum, difference and product fit 64 bits
 -- Assumes nothing.
-use Prim.Native.Nat.{ℕ, zero, suc, _+_, _*_, _^_, _≤_, _<_}
+use Prim.Native.Nat.{ℕ, zero, suc, _^_, _≤_, _<_}
 use native.Mathlib.Omega.{arith}
 use native.Mathlib.Nat.{mul-le-mul, lt-of-le-of-lt}
 use mathlib.Core.Path.{_≡_}

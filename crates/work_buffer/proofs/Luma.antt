@@ -5,7 +5,7 @@ use mathlib.Core.List.{List}
 use lib.Dec.{lit<}
 use lib.ListN.{length, getD}
 use Rattle.lists.specs.Lists.{turns, store}
-use Rattle.lists.proofs.Stores.{rows-each}
+use Rattle.lists.proofs.Each.{rows-each}
 use Rattle.rfc6386.specs.Walk.{lumaOf}
 
 abbrev pub lumaRow : List ℕ → ℕ → List ℕ → List ℕ

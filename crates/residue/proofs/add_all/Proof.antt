@@ -24,8 +24,7 @@ loop-again : tie.Need-loop-again Inv-loop μ-loop
 loop-again c =
     let l = c .before .before .before .before in
     let s = l .before .before .before in
-    let a = s .args in
-    (
+    let a = s .args in (
       omega arith,
       simp length-set (l .loop .inv .1),
       sum-turn (a .prediction .now) (a .residue .now) (l .loop .i) _ (a .out .now) (l .loop .out) (l .loop .inv .2) (c .before .sum-arg .given) (c .sum .ensures)

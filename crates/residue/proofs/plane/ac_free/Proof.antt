@@ -22,8 +22,7 @@ loop-holds c = (omega arith, refl)
 loop-again : tie.Need-loop-again Inv-loop μ-loop
 loop-again c =
     let l = c .before .before .before in
-    let m = c .before .if12 .given in
-    (
+    let m = c .before .if12 .given in (
       omega arith,
       ⊎-elim (λ w. w .1 ∙ not-free _ (l .loop .k) m (w .0 .taken)) (λ w. w .1 ∙ still-free _ (l .loop .k) m _ (l .loop .inv .1) (w .0 .left)) (c .if1 .came),
     )

@@ -33,13 +33,12 @@ loop-again c =
     let l = c .before .before .before .before in
     let a = l .before .before .args in
     let i = l .loop .i in
-    let j = i / 4 * a .stride + i % 4 in
-    (
+    let j = i / 4 * a .stride + i % 4 in (
       omega arith,
       simp length-set (l .loop .inv .1),
       turns-step i (sumAt 0 (a .stride) (a .t3)) _ (l .loop .part) _ (l .loop .inv .2)
-      (ap (λ (v : ℕ). set (l .loop .part) j v) (c .sum .ensures ∙ rw (held16 (getD (a .t3) i (pos 0)) (c .before .sum-arg .given)))
-      ∙ turn-in-part (a .stride) (a .t3) i (l .loop .part)),
+          (ap (λ (v : ℕ). set (l .loop .part) j v) (c .sum .ensures ∙ rw (held16 (getD (a .t3) i (pos 0)) (c .before .sum-arg .given)))
+          ∙ turn-in-part (a .stride) (a .t3) i (l .loop .part)),
     )
 
 returns : tie.Need-returns Inv-loop μ-loop

@@ -1,5 +1,5 @@
 -- `residue::plane::dc_only` meets its contract: an eighth of a number of 16 bits, and of 4 more, is one of 16 bits. Assumes nothing.
-use mathlib.Core.Path.{ap, _∙_}
+use mathlib.Core.Path.{sym, ap, subst, _∙_}
 use Prim.Native.Nat.{_≤_}
 use native.Mathlib.Omega.{arith}
 use lib.IntN.{ℤ, pos, negsuc, natAbs, _+ℤ_}
@@ -25,7 +25,7 @@ short (pos n) h = record { sfits = omega arith }
 short (negsuc n) h = record { sfits = omega arith }
 
 cast-v : tie.Need-cast-v
-cast-v c = rw (eighth c .is) (short (c .before .args .dc +ℤ pos 4) (total c .small))
+cast-v c = subst (SFits w16) (sym (eighth c .is)) (short (c .before .args .dc +ℤ pos 4) (total c .small))
 
 returns : tie.Need-returns
 unfolding idctDc

@@ -1,7 +1,6 @@
 -- `residue::plane::inverse_dct_4x4_add_into` meets its contract: each way lends on the part of the plane that starts at the block. Assumes nothing.
 use mathlib.Core.Bool.{true}
 use mathlib.Core.Path.{_≡_, sym, _∙_}
-use Prim.Native.Nat.{_+_, _*_, _≤_}
 use native.Mathlib.Omega.{arith}
 use borrow.Author.Needs.{needs}
 use denote.Ref.{now}
@@ -10,20 +9,18 @@ use Rattle.lists.proofs.Parts.{tail-whole}
 use Rattle.rfc6386.specs.Residue.{lies}
 use Rattle.residue.proofs.AcFree.{dc-way}
 use Rattle.residue.proofs.Answers.{into-given, into-refused}
-use Rattle.residue.proofs.Geometry.{lies-room}
+use Rattle.residue.proofs.Geometry.{Room, lies-room}
 use Rattle.residue.proofs.Part.{added-back}
 use Rattle.residue.proofs.plane.inverse_dct_4x4_add_into.Statement.{statement}
 use Rattle.residue.proofs.plane.inverse_dct_4x4_add_into.Tie as tie
 
-module _ (c : tie.Then1) where
-  -- past the test the block lies in the plane, and there is room for its first pixel and its rows
-  inside : lies (length (now (c .before .before .before .args .plane))) (c .before .before .before .args .stride) (c .before .before .before .args .sub-row) (c .before .before .before .args .sub-col) ≡ true
-  inside = sym (c .before .block-lies .ensures) ∙ c .if1 .taken
+-- past the test the block lies in the plane, and there is room for its first pixel and its rows
+inside : (c : tie.Then1)
+    → let x = c .before .before .before .args in lies (length (x .plane .now)) (x .stride) (x .sub-row) (x .sub-col) ≡ true
+inside c = sym (c .before .block-lies .ensures) ∙ c .if1 .taken
 
-  room : (4 * c .before .before .before .args .sub-row ≤ length (now (c .before .before .before .args .plane)))
-      × (4 * c .before .before .before .args .sub-row * c .before .before .before .args .stride + 4 * c .before .before .before .args .sub-col + (3 * c .before .before .before .args .stride + 4)
-        ≤ length (now (c .before .before .before .args .plane)))
-  room = lies-room _ _ _ _ inside
+room : (c : tie.Then1) → let x = c .before .before .before .args in Room (length (x .plane .now)) (x .stride) (x .sub-row) (x .sub-col)
+room c = lies-room _ _ _ _ (inside c)
 
 add-rows-requires : tie.Need-add-rows-requires
 add-rows-requires c κs = let h = room (c .before .before .before .before .before) in rw (tail-whole, length-drop) (omega arith)

@@ -9,6 +9,7 @@
 --     Demand3      the same of a pixel, as the machine makes it
 --     Tm           TM in numbers that are never negative
 --     Edges        16x16 and 8x8 prediction: TM from the H and V blocks, what an absent edge does, lengths
+--     Subblock     4x4 prediction: Dc and Tm are the same rules, its length
 --     Total        the sum of an edge, pixel by pixel
 --     Planes       a plane predicted whole: one pixel, what it depends on
 --     Parts        the luma of mode B: a pixel of sub-block k is the one that turn k put
@@ -25,6 +26,7 @@ pub mod DctNear
 pub mod Demand3
 pub mod Tm
 pub mod Edges
+pub mod Subblock
 pub mod Total
 pub mod Planes
 pub mod Parts

@@ -1,0 +1,2 @@
+-- One answer only for each public function.
+pub mod OneAnswer

@@ -1,0 +1,2 @@
+-- The answer of `predict_y16x16`.
+pub mod Luma

@@ -1,0 +1,3 @@
+-- The laws of a sub-block drawn from a line, and one answer only for the public function.
+pub mod Lines
+pub mod OneAnswer

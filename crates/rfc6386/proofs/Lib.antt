@@ -8,9 +8,14 @@
 --     DctNear      how far the inverse DCT in whole numbers lies from the exact one, for every block
 --     Demand3      the same of a pixel, as the machine makes it
 --     Tm           TM in numbers that are never negative
---     Total        the sum of an edge, pixel by pixel
 --     Edges        16x16 and 8x8 prediction: TM from the H and V blocks, what an absent edge does, lengths
 --     Subblock     4x4 prediction: Dc and Tm are the same rules, its length
+--     Total        the sum of an edge, pixel by pixel
+--     Planes       a plane predicted whole: one pixel, what it depends on
+--     Parts        the luma of mode B: a pixel of sub-block k is the one that turn k put
+--     Absent       the bytes of an absent edge are read nowhere
+--     Unused       what changes no plane: the coefficients of a skipped macroblock, a seeded block's own first coefficient
+--     Demand3Planes  demand 3 of each pixel of a plane, and of a sub-block
 --     Pictures     the decay pictures that we already know, as one computed table
 pub mod Quantiser
 pub mod Wht
@@ -21,7 +26,12 @@ pub mod DctDc
 pub mod DctNear
 pub mod Demand3
 pub mod Tm
-pub mod Total
 pub mod Edges
 pub mod Subblock
+pub mod Total
+pub mod Planes
+pub mod Parts
+pub mod Absent
+pub mod Unused
+pub mod Demand3Planes
 pub mod Pictures

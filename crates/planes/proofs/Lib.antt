@@ -1,0 +1,5 @@
+-- The laws that the proofs of `planes` cite.
+--     Seeded     the four blocks of a luma block row, each with its DC
+--     Added      residues added in place, block row by block row and row by row, are the plane with its blocks added
+pub mod Seeded
+pub mod Added

@@ -1,0 +1,13 @@
+-- `planes::u_plane` meets its contract. Assumes nothing.
+use Rattle.rfc6386.specs.Walk.{uPlane, uPrediction, plane}
+use borrow.Author.Needs.{needs}
+use borrow.Author.Needs.{needs}
+use Rattle.planes.proofs.chroma.u_plane.Statement.{statement}
+use Rattle.planes.proofs.chroma.u_plane.Tie as tie
+
+returns : tie.Need-returns
+unfolding uPlane uPrediction
+returns c = rw (c .plane .ensures, c .before .predict-uv8x8 .ensures, c .before .before .pixel-or .ensures)
+
+pub u-plane-spec : {M : Type 1} → statement M
+u-plane-spec = tie.close (tie.spec (λ c κs. search needs) (λ c κs. search needs) (λ c κs. search needs) returns)

@@ -1,0 +1,46 @@
+-- `planes::luma::add_blocks` meets its contract. Assumes nothing.
+use Prim.Native.Nat.{_-_, _≤_}
+use mathlib.Core.Path.{_≡_, refl, _∙_}
+use Rattle.lists.specs.Lists.{turns}
+use Rattle.lists.proofs.Turns.{turns-step, turns-done}
+use Rattle.rfc6386.specs.Dct.{idctFour}
+use Rattle.planes.proofs.Added.{luma-added}
+use Rattle.planes.specs.Steps.{seededFour, groupAdded}
+use borrow.Author.Needs.{needs}
+use native.Mathlib.Omega.{arith}
+use Rattle.planes.proofs.luma.add_blocks.Statement.{statement}
+use Rattle.planes.proofs.luma.add_blocks.Tie as tie
+
+abbrev Inv-loop : tie.InvT-loop
+Inv-loop px₀ coeffs dcs i₀ px i = (i ≤ 4) × (px ≡ turns i (λ k. groupAdded (idctFour (seededFour coeffs dcs k)) k) px₀)
+
+abbrev μ-loop : tie.MeasureT-loop
+μ-loop px₀ coeffs dcs i₀ px i = 4 - i
+
+loop-holds : tie.Need-loop-holds Inv-loop μ-loop
+unfolding turns
+loop-holds c = (omega arith, refl)
+
+loop-again : tie.Need-loop-again Inv-loop μ-loop
+loop-again c = (omega arith, turns-step _ _ _ _ _ (c .before .before .before .before .before .loop .inv .1) (rw (c .add-group .ensures, c .before .inverse-dct-four .ensures, c .before .before .seeded-four .ensures)))
+
+returns : tie.Need-returns Inv-loop μ-loop
+returns c =
+    turns-done _ _ _ _ _ (c .before .loop .inv .1) (c .before .loop .inv .0) (c .loop-test .left)
+    ∙ rw (c .before .before .seeds .ensures) (luma-added _ _ (c .before .before .before .pre))
+
+pub add-blocks-spec : {M : Type 1} → statement M
+add-blocks-spec =
+    tie.close
+    (tie.spec
+    Inv-loop
+    μ-loop
+    (λ c κs. search needs)
+    loop-holds
+    (λ c κs. search needs)
+    (λ c κs. search needs)
+    (λ c κs. search needs)
+    (λ c. omega arith)
+    (λ c. omega arith)
+    loop-again
+    returns)

@@ -1,0 +1,2 @@
+-- The definitions that the contracts of `planes` cite beside those of `rfc6386`.
+pub mod Steps

@@ -1,0 +1,87 @@
+// Luma in the four 16x16 modes. The residues of a block row, four blocks side by side, are 64 pixels in a row of the plane.
+ghost use mathlib.Core.Path.{_≡_};
+ghost use Prim.Native.Nat.{_<_};
+ghost use lib.ListN.{length, take};
+ghost use Rattle.rfc6386.specs.Wht.{iwht};
+ghost use Rattle.rfc6386.specs.Walk.{seeded, addedBlocks, yPrediction, yWhole};
+ghost use Rattle.planes.specs.Steps.{seededFour, groupAdded};
+use macroblock::IntraYMode;
+use macroblock::MbNeighbors;
+
+// By the mode. Mode B predicts its sub-blocks one by one: zero pixels stand for its 16x16 prediction.
+fn predicted(mode: IntraYMode, neighbors: MbNeighbors) -> [u8; 256]
+    ensures { λ r. ⌜ r ≡ yPrediction mode neighbors ⌝ }
+{
+    let above = neighbors.y_above;
+    let above_there = neighbors.y_above_there;
+    let left = neighbors.y_left;
+    let left_there = neighbors.y_left_there;
+    match mode {
+        IntraYMode::Dc => intra_edges::predict_y16x16_dc(above, above_there, left, left_there),
+        IntraYMode::V => intra_edges::predict_y16x16_v(above, above_there),
+        IntraYMode::H => intra_edges::predict_y16x16_h(left, left_there),
+        IntraYMode::Tm => intra_edges::predict_y16x16_tm(
+            above,
+            above_there,
+            left,
+            left_there,
+            blocks::pixel_or(
+                MbNeighbors::ABOVE,
+                neighbors.y_topleft,
+                neighbors.y_topleft_there,
+            ),
+        ),
+        IntraYMode::B => [0u8; 256],
+    }
+}
+
+// The sixteen DCs: the inverse WHT of the Y2 block.
+fn seeds(coeffs: &[i16]) -> [i16; 16]
+    ensures { λ r. ⌜ r ≡ iwht (take 16 (now (coeffs .entry))) ⌝ }
+{
+    wht::inverse_wht_4x4(blocks::first(coeffs))
+}
+
+// The four blocks of block row i, each with its DC in the place of its own first coefficient.
+fn seeded_four(coeffs: &[i16], dcs: [i16; 16], i: usize) -> [i16; 64]
+    requires { ⌜ i < 4 ⌝ }
+    ensures { λ r. ⌜ r ≡ seededFour (now (coeffs .entry)) dcs i ⌝ }
+{
+    let mut s = blocks::four(coeffs, 16 + 64 * i);
+    for j in 0..4 {
+        let dc = dcs[4 * i + j];
+        s[16 * j] = dc;
+    }
+    s
+}
+
+fn add_group(px: &mut [u8; 256], i: usize, o: [i16; 64])
+    requires { ⌜ i < 4 ⌝ }
+    ensures { λ _. ⌜ now (px .exit) ≡ groupAdded o i (now (px .entry)) ⌝ }
+{
+    for k in 0..64 {
+        px[i * 64 + k] = blocks::sum(px[i * 64 + k], o[k]);
+    }
+}
+
+fn add_blocks(px: &mut [u8; 256], coeffs: &[i16])
+    requires { ⌜ length (now px) ≡ 256 ⌝ }
+    ensures { λ _. ⌜ now (px .exit) ≡ addedBlocks 16 (now (px .entry)) (seeded (now (coeffs .entry))) ⌝ }
+{
+    let dcs = seeds(coeffs);
+    for i in 0..4 {
+        add_group(px, i, dct::inverse_dct_four(seeded_four(coeffs, dcs, i)));
+    }
+}
+
+// The luma of a macroblock in a 16x16 mode, from 400 coefficients: the Y2 block, then the sixteen Y blocks.
+pub fn y_whole(mode: IntraYMode, skip: bool, neighbors: MbNeighbors, coeffs: &[i16]) -> [u8; 256]
+    ensures { λ r. ⌜ r ≡ yWhole mode skip neighbors (now (coeffs .entry)) ⌝ }
+{
+    let mut px = predicted(mode, neighbors);
+    if skip {
+        return px;
+    }
+    add_blocks(&mut px, coeffs);
+    px
+}

@@ -1,0 +1,37 @@
+-- `reconstruct::decode_keyframe_mb_bpred` meets its contract: by its three tests. Assumes nothing.
+use mathlib.Core.Path.{sym, _∙_}
+use borrow.Author.Tests.{eq-eqb, ne-eqb, not-true, not-false}
+use Rattle.reconstruct.specs.Answers.{walkB}
+use borrow.Author.Needs.{needs}
+use Rattle.reconstruct.proofs.decode_keyframe_mb_bpred.Statement.{statement}
+use Rattle.reconstruct.proofs.decode_keyframe_mb_bpred.Tie as tie
+
+returns : tie.Need-returns
+unfolding walkB
+returns c = rw (not-true (c .before .before .args .sub-modes-there) (c .before .if1 .taken)) (c .refused .ensures)
+
+returns-2 : tie.Need-returns-2
+unfolding walkB
+returns-2 c = rw (not-false (c .before .before .before .args .sub-modes-there) (c .before .before .if1 .left), ne-eqb _ _ (c .before .if2 .taken)) (c .refused2 .ensures)
+
+returns-3 : tie.Need-returns-3
+unfolding walkB
+returns-3 c = rw (not-false (c .before .before .before .before .before .args .sub-modes-there) (c .before .before .before .before .if1 .left), eq-eqb _ _ (c .before .before .before .if2 .left), sym (c .before .before .window-passes .ensures) ∙ c .before .if3 .taken) (c .refused3 .ensures)
+
+returns-4 : tie.Need-returns-4
+unfolding walkB
+returns-4 c = rw (not-false (c .before .before .before .before .before .args .sub-modes-there) (c .before .before .before .before .if1 .left), eq-eqb _ _ (c .before .before .before .if2 .left), sym (c .before .before .window-passes .ensures) ∙ c .before .if3 .left) (c .parts .ensures)
+
+pub decode-keyframe-mb-bpred-spec : {M : Type 1} → statement M
+decode-keyframe-mb-bpred-spec =
+    tie.close
+    (tie.spec
+    (λ c κs. search needs)
+    returns
+    (λ c κs. search needs)
+    returns-2
+    (λ c κs. search needs)
+    (λ c κs. search needs)
+    returns-3
+    (λ c κs. search needs)
+    returns-4)

@@ -1,0 +1,2 @@
+-- What the two walkers answer.
+pub mod Answers

@@ -1,0 +1,21 @@
+-- `work_buffer::border::start` meets its contract. Assumes nothing.
+use Rattle.rfc6386.specs.Walk.{startOf}
+use Rattle.rfc6386.specs.Edges.{aboveOr, leftOr}
+use borrow.Author.Needs.{needs}
+use Rattle.work_buffer.proofs.border.start.Statement.{statement}
+use Rattle.work_buffer.proofs.border.start.Tie as tie
+
+returns : tie.Need-returns
+unfolding startOf aboveOr leftOr
+returns c = cc
+
+pub start-spec : {M : Type 1} → statement M
+start-spec =
+    tie.close
+    (tie.spec
+    (λ c κs. search needs)
+    (λ c κs. search needs)
+    (λ c κs. search needs)
+    (λ c κs. search needs)
+    (λ c κs. search needs)
+    returns)

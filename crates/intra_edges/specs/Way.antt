@@ -11,11 +11,7 @@ abbrev pub spread : Way → List ℕ → ℕ → ℕ → ℕ
 spread Down edge = vPixel edge
 spread Across edge = hPixel edge
 
--- what stands for each pixel of an absent edge
-abbrev pub defaultOf : Way → ℕ
-defaultOf Down = 127
-defaultOf Across = 129
-
+-- the block, also where the edge is absent
 abbrev pub edgeBlock : Way → ℕ → List ℕ → Bool → List ℕ
 edgeBlock Down = vBlock
 edgeBlock Across = hBlock

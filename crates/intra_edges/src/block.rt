@@ -5,7 +5,7 @@ ghost use mathlib.Core.Path.{_≡_};
 ghost use Prim.Native.Nat.{_*_, _<_};
 ghost use lib.ListN.{length, getD};
 ghost use Rattle.lists.specs.Lists.{table, rows};
-ghost use Rattle.intra_edges.specs.Way.{spread, defaultOf, edgeBlock};
+ghost use Rattle.intra_edges.specs.Way.{spread, edgeBlock};
 
 // Which way an edge is repeated: V takes the row above down, H the left column across.
 pub(crate) enum Way {
@@ -51,15 +51,6 @@ fn draw(out: &mut [u8], n: usize, edge: &[u8], way: Way)
     }
 }
 
-fn default_pixel(way: Way) -> u8
-    ensures { λ r. ⌜ r ≡ defaultOf way ⌝ }
-{
-    match way {
-        Way::Down => DEFAULT_ABOVE_PIXEL,
-        Way::Across => DEFAULT_LEFT_PIXEL,
-    }
-}
-
 // V and H: the edge repeated, or the pixel that stands for it.
 pub(crate) fn edge_block(out: &mut [u8], n: usize, edge: &[u8], there: bool, way: Way)
     requires { ⌜ (length (now out) ≡ n * n) × (length (now edge) ≡ n) ⌝ }
@@ -67,7 +58,10 @@ pub(crate) fn edge_block(out: &mut [u8], n: usize, edge: &[u8], there: bool, way
 {
     if there {
         draw(out, n, edge, way);
-    } else {
-        fill(out, default_pixel(way));
+        return;
+    }
+    match way {
+        Way::Down => fill(out, DEFAULT_ABOVE_PIXEL),
+        Way::Across => fill(out, DEFAULT_LEFT_PIXEL),
     }
 }

@@ -13,15 +13,16 @@ mod dc;
 mod tm;
 
 use block::Way;
+use macroblock::MbNeighbors;
 ghost use mathlib.Core.Path.{_≡_};
 ghost use mathlib.Core.Bool.{true};
 ghost use Rattle.rfc6386.specs.Edges.{dcBlock, vBlock, hBlock, tmBlock};
 
-// What stands for each pixel of an absent row above.
-pub const DEFAULT_ABOVE_PIXEL: u8 = 127;
+// What stands for each pixel of an absent row above: 127.
+pub const DEFAULT_ABOVE_PIXEL: u8 = MbNeighbors::ABOVE;
 
-// What stands for each pixel of an absent left column.
-pub const DEFAULT_LEFT_PIXEL: u8 = 129;
+// What stands for each pixel of an absent left column: 129.
+pub const DEFAULT_LEFT_PIXEL: u8 = MbNeighbors::LEFT;
 
 // DC's pixel where both edges are absent. It stands for no absent pixel: an absent top-left is 127.
 pub const DEFAULT_TOPLEFT_DC: u8 = 128;

@@ -1,6 +1,6 @@
 // Means along an edge of nine pixels, lines of them, and a sub-block drawn from a line.
 ghost use mathlib.Core.Path.{_≡_};
-ghost use Prim.Native.Nat.{_+_, _*_, _<_};
+ghost use Prim.Native.Nat.{_+_, _<_};
 ghost use lib.ListN.{length};
 ghost use Rattle.lists.specs.Lists.{table, rows};
 ghost use Rattle.rfc6386.specs.Subblock.{avg2, avg3, avg2At, avg3At};

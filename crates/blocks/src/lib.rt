@@ -1,19 +1,11 @@
-// What the luma and the chroma of a macroblock share: the caller's coefficients taken block by block and transformed four
-// blocks side by side (RFC 6386, 14.4), a pixel with its residue added (14.5), and what stands for an absent top-left (12.2).
+// What the luma and the chroma of a macroblock share: the caller's coefficients, taken and transformed four blocks side by
+// side (RFC 6386, 14.4), and what stands for an absent pixel (12.2).
 ghost use mathlib.Core.Path.{_≡_};
 ghost use Prim.Native.Nat.{_+_, _≤_};
 ghost use lib.IntN.{pos};
 ghost use lib.ListN.{length, getD};
 ghost use Rattle.rfc6386.specs.Edges.{pixelOr};
-ghost use Rattle.rfc6386.specs.Residue.{sum};
 ghost use Rattle.blocks.specs.Taken.{taken, residuesFrom};
-
-// A prediction with its residue added, held within 0 and 255.
-pub fn sum(p: u8, residue: i16) -> u8
-    ensures { λ r. ⌜ r ≡ sum p residue ⌝ }
-{
-    whole::clamp255(whole::wrapping_add(p as i32, whole::widen(residue)))
-}
 
 // One pixel, or `other` where it is absent.
 pub fn pixel_or(other: u8, pixel: u8, there: bool) -> u8

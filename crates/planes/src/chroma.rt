@@ -20,7 +20,7 @@ fn add_row(px: &mut [u8; 64], r: usize, o: [i16; 64])
 {
     let from = 16 * (r % 4) + 8 * (r / 4);
     for c in 0..8 {
-        px[r * 8 + c] = blocks::sum(px[r * 8 + c], o[from + c]);
+        px[r * 8 + c] = residue::sum(px[r * 8 + c], o[from + c]);
     }
 }
 

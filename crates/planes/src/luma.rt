@@ -60,7 +60,7 @@ fn add_group(px: &mut [u8; 256], i: usize, o: [i16; 64])
     ensures { λ _. ⌜ now (px .exit) ≡ groupAdded o i (now (px .entry)) ⌝ }
 {
     for k in 0..64 {
-        px[i * 64 + k] = blocks::sum(px[i * 64 + k], o[k]);
+        px[i * 64 + k] = residue::sum(px[i * 64 + k], o[k]);
     }
 }
 

@@ -34,8 +34,7 @@ wholeOf y uv skip n coeffs =
 unfoldable pub nonB : MbModes → MbNeighbors → List ℤ → ReconstructedMb
 nonB m n coeffs =
     pick (isB (m .y)) (refusal bPred)
-    (pick (eqb (length coeffs) 400) (wholeOf (m .y) (m .uv) (m .skip) n coeffs)
-    (refusal wrongLength))
+    (pick (eqb (length coeffs) 400) (wholeOf (m .y) (m .uv) (m .skip) n coeffs) (refusal wrongLength))
 
 -- ---- luma mode B: 384 coefficients, U's from 256 on and V's from 320 on. The work buffer has 357 bytes
 unfoldable pub partsOf : List IntraBmode → IntraUvMode → Bool → MbNeighbors → List ℤ → ReconstructedMb

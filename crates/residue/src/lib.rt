@@ -10,7 +10,7 @@ pub use plane::inverse_dct_4x4_add_into;
 pub use whole::clamp255;
 
 // One pixel.
-pub(crate) fn sum(p: u8, r: i16) -> u8
+pub fn sum(p: u8, r: i16) -> u8
     ensures { λ q. ⌜ q ≡ sum p r ⌝ }
 {
     clamp255((p as i32) + whole::widen(r))

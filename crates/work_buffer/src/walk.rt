@@ -22,7 +22,7 @@ fn summed(px: [u8; 16], o: [i16; 64], j: usize) -> [u8; 16]
 {
     let mut out = [0u8; 16];
     for i in 0..16 {
-        out[i] = blocks::sum(px[i], o[16 * (i / 4) + 4 * j + i % 4]);
+        out[i] = residue::sum(px[i], o[16 * (i / 4) + 4 * j + i % 4]);
     }
     out
 }

@@ -23,12 +23,11 @@ module _ (m : MbModes) (n : MbNeighbors) (c : List ℤ) (r : ReconstructedMb) (p
 
   pub nonB-skipped : (r .y ≡ yPrediction (m .y) n) × (r .u ≡ uPrediction (m .uv) n) × (r .v ≡ vPrediction (m .uv) n)
   unfolding wholeOf
-  nonB-skipped =
-      (
-        ap (λ (x : ReconstructedMb). x .y) is ∙ yWhole-skipped n c (m .y),
-        ap (λ (x : ReconstructedMb). x .u) is ∙ uPlane-skipped n c (m .uv) 272,
-        ap (λ (x : ReconstructedMb). x .v) is ∙ vPlane-skipped n c (m .uv) 336,
-      )
+  nonB-skipped = (
+    ap (λ (x : ReconstructedMb). x .y) is ∙ yWhole-skipped n c (m .y),
+    ap (λ (x : ReconstructedMb). x .u) is ∙ uPlane-skipped n c (m .uv) 272,
+    ap (λ (x : ReconstructedMb). x .v) is ∙ vPlane-skipped n c (m .uv) 336,
+  )
 
 module _ (subs : List IntraBmode) (there : Bool) (m : MbModes) (n : MbNeighbors) (c : List ℤ) (r : ReconstructedMb)
     (promise : r ≡ walkB subs there m n c) (accepted : r .reply ≡ done) (skipped : m .skip ≡ true) where
@@ -37,11 +36,10 @@ module _ (subs : List IntraBmode) (there : Bool) (m : MbModes) (n : MbNeighbors)
 
   pub walkB-skipped-chroma : (r .u ≡ uPrediction (m .uv) n) × (r .v ≡ vPrediction (m .uv) n)
   unfolding partsOf
-  walkB-skipped-chroma =
-      (
-        ap (λ (x : ReconstructedMb). x .u) is-parts ∙ uPlane-skipped n c (m .uv) 256,
-        ap (λ (x : ReconstructedMb). x .v) is-parts ∙ vPlane-skipped n c (m .uv) 320,
-      )
+  walkB-skipped-chroma = (
+    ap (λ (x : ReconstructedMb). x .u) is-parts ∙ uPlane-skipped n c (m .uv) 256,
+    ap (λ (x : ReconstructedMb). x .v) is-parts ∙ vPlane-skipped n c (m .uv) 320,
+  )
 
   -- row i and column j of sub-block k
   pub walkB-skipped-luma : (k i j : ℕ) → k < 16 → i < 4 → j < 4

@@ -7,7 +7,7 @@ use Prim.Native.Nat.{ℕ, zero, suc, _+_, _*_, _<_}
 use mathlib.Core.Path.{_≡_, refl}
 use mathlib.Core.Bool.{Bool, true, false}
 use mathlib.Core.List.{List}
-use mathlib.Core.Logic.{⊎-elim}
+use mathlib.Core.Logic.{_↔_, ⊎-elim}
 use native.Mathlib.Nat.{not-suc-le-zero, le-of-suc-le-suc, eq-or-lt-of-le}
 use native.Mathlib.Omega.{arith}
 use borrow.Author.Tests.{ltb-true, eqb-true, lt-ltb, eq-eqb}
@@ -29,14 +29,15 @@ use Rattle.reconstruct.specs.declared.ReconstructedMb.{ReconstructedMb}
 abbrev pub SomePasses : ℕ → ℕ → Type 0
 SomePasses n m = (k : ℕ) × (k < m) × (n < cornerOf k + 3 * 21 + 4)
 
+some-step : (n m : ℕ) (t : Bool) → passesAt n m ≡ t → (turns m (orPasses n) false ≡ true → SomePasses n m)
+    → pick t true (turns m (orPasses n) false) ≡ true → SomePasses n (suc m)
+some-step n m true p earlier q = (m, omega arith, ltb-true n (cornerOf m + 3 * 21 + 4) p)
+some-step n m false p earlier q = let s = earlier q in (s .0, omega (arith, s .1), s .2)
+
 some-from : (n m : ℕ) → turns m (orPasses n) false ≡ true → SomePasses n m
 unfolding turns
 some-from n zero e = let z : _≡_ {A = ℕ} 0 1 = cc in absurd (omega arith)
-some-from n (suc m) e = by (passesAt n m) refl e
-  where
-    by : (t : Bool) → passesAt n m ≡ t → pick t true (turns m (orPasses n) false) ≡ true → SomePasses n (suc m)
-    by true p q = (m, omega arith, ltb-true n (cornerOf m + 3 * 21 + 4) p)
-    by false p q = let s = some-from n m q in (s .0, omega (arith, s .1), s .2)
+some-from n (suc m) e = some-step n m (passesAt n m) refl (some-from n m) e
 
 some-to : (n m k : ℕ) → k < m → n < cornerOf k + 3 * 21 + 4 → turns m (orPasses n) false ≡ true
 unfolding turns

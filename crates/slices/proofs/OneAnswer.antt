@@ -7,6 +7,8 @@ use Rattle.slices.proofs.copy_numbers.Reads as copy-numbers
 use Rattle.slices.proofs.copy_numbers.Kinds as copy-numbers-k
 use Rattle.slices.proofs.clear.Reads as clear
 use Rattle.slices.proofs.clear.Kinds as clear-k
+use Rattle.slices.proofs.put_sixteen.Reads as put-sixteen
+use Rattle.slices.proofs.put_sixteen.Kinds as put-sixteen-k
 use Rattle.slices.proofs.sixteen_numbers.Reads as sixteen-numbers
 use Rattle.slices.proofs.sixteen_numbers.Kinds as sixteen-numbers-k
 use Rattle.slices.proofs.sixteen.Reads as sixteen
@@ -24,6 +26,9 @@ copy-numbers-one κs a x y s t p q = (refl, same p q)
 
 pub clear-one : OneAnswerIn 1 clear-k.ps clear-k.r clear.Post (λ κs s. s .0 .now)
 clear-one κs a x y s t p q = (refl, same p q)
+
+pub put-sixteen-one : OneAnswerIn 1 put-sixteen-k.ps put-sixteen-k.r put-sixteen.Post (λ κs s. s .0 .now)
+put-sixteen-one κs a x y s t p q = (refl, same p q)
 
 pub sixteen-numbers-one : OneAnswer 1 sixteen-numbers-k.ps sixteen-numbers-k.r sixteen-numbers.Post
 sixteen-numbers-one κs a x y s t = same

@@ -19,6 +19,11 @@ module _ {A : Type 0} where
   abbrev pub sized : ℕ → List A → Bool
   sized n s = eqb (length s) n
 
+module _ {A : Type 0} where
+  -- what `to` holds once the n elements of `from` were put into it: nothing new where it has another length
+  unfoldable pub putIn : ℕ → List A → List A → List A
+  putIn n from to = pick (sized n to) from to
+
 -- as many zeros
 unfoldable pub cleared : List ℕ → List ℕ
 cleared to = replicate (length to) 0

@@ -2,7 +2,7 @@
 ghost use mathlib.Core.Path.{_≡_};
 ghost use lib.ListN.{length};
 ghost use lib.IntN.{pos};
-ghost use Rattle.slices.specs.Copies.{copied, cleared, orZeros};
+ghost use Rattle.slices.specs.Copies.{copied, cleared, orZeros, putIn};
 
 fn copy_all(to: &mut [u8], from: &[u8])
     requires { ⌜ length (now to) ≡ length (now from) ⌝ }
@@ -59,6 +59,13 @@ pub fn sixteen_numbers(from: &[i16]) -> [i16; 16]
     let mut a = [0i16; 16];
     copy_numbers(&mut a, from);
     a
+}
+
+// Sixteen numbers written; nothing into a slice of another length.
+pub fn put_sixteen(to: &mut [i16], block: [i16; 16])
+    ensures { λ _. ⌜ now (to .exit) ≡ putIn 16 block (now (to .entry)) ⌝ }
+{
+    copy_numbers(to, &block);
 }
 
 // So many pixels; zeros for a slice of another length.

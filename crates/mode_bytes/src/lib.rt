@@ -23,7 +23,11 @@ pub fn y_mode(byte: u8) -> IntraYMode
 pub fn y_reply(byte: u8) -> u32
     ensures { λ r. ⌜ r ≡ yReply byte ⌝ }
 {
-    if byte < 5 { reply::DONE } else { reply::UNKNOWN_BYTE }
+    if byte < 5 {
+        reply::DONE
+    } else {
+        reply::UNKNOWN_BYTE
+    }
 }
 
 pub fn uv_mode(byte: u8) -> IntraUvMode
@@ -41,7 +45,11 @@ pub fn uv_mode(byte: u8) -> IntraUvMode
 pub fn uv_reply(byte: u8) -> u32
     ensures { λ r. ⌜ r ≡ uvReply byte ⌝ }
 {
-    if byte < 4 { reply::DONE } else { reply::UNKNOWN_BYTE }
+    if byte < 4 {
+        reply::DONE
+    } else {
+        reply::UNKNOWN_BYTE
+    }
 }
 
 pub fn b_mode(byte: u8) -> IntraBmode
@@ -65,5 +73,9 @@ pub fn b_mode(byte: u8) -> IntraBmode
 pub fn b_reply(byte: u8) -> u32
     ensures { λ r. ⌜ r ≡ bReply byte ⌝ }
 {
-    if byte < 10 { reply::DONE } else { reply::UNKNOWN_BYTE }
+    if byte < 10 {
+        reply::DONE
+    } else {
+        reply::UNKNOWN_BYTE
+    }
 }

@@ -37,6 +37,7 @@ fn blank() -> [u8; LENGTH]
 
 // Four rows on, and where above-right stands in row 4.
 const FOUR_ROWS: usize = 4 * MbNeighbors::STRIDE;
+
 const BELOW: usize = 17 + FOUR_ROWS;
 
 // Above-right again, in rows 4, 8 and 12.

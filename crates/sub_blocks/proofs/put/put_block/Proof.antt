@@ -1,14 +1,14 @@
--- `sub_blocks::window::put_block` meets its contract: four rows of four stores are the sixteen. Assumes nothing.
-use Prim.Native.Nat.{_+_, _*_, _-_, _≤_}
+-- `sub_blocks::put::put_block` meets its contract: four rows of four stores are the sixteen. Assumes nothing.
+use Prim.Native.Nat.{_-_, _≤_}
 use mathlib.Core.Path.{_≡_, refl, _∙_}
-use lib.ListN.{getD}
-use Rattle.lists.specs.Lists.{turns, store}
+use Rattle.lists.specs.Lists.{turns}
 use Rattle.lists.proofs.Turns.{turns-step, turns-done}
-use Rattle.sub_blocks.proofs.Put.{putRow, put-rows}
+use Rattle.sub_blocks.specs.Steps.{putRow}
+use Rattle.sub_blocks.proofs.FourRows.{put-rows}
 use native.Mathlib.Omega.{arith}
 use borrow.Author.Needs.{needs}
-use Rattle.sub_blocks.proofs.window.put_block.Statement.{statement}
-use Rattle.sub_blocks.proofs.window.put_block.Tie as tie
+use Rattle.sub_blocks.proofs.put.put_block.Statement.{statement}
+use Rattle.sub_blocks.proofs.put.put_block.Tie as tie
 
 abbrev Inv-loop : tie.InvT-loop
 Inv-loop b₀ at px r₀ b r = (r ≤ 4) × (b ≡ turns r (putRow at px) b₀)

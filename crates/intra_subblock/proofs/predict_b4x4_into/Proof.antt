@@ -1,12 +1,12 @@
--- `intra_subblock::predict_b4x4` meets its contract: each arm is what its function ensures. Assumes nothing.
+-- `intra_subblock::predict_b4x4_into` meets its contract: each arm is what its function ensures. Assumes nothing.
 use borrow.Author.Needs.{needs}
 use Rattle.rfc6386.specs.Subblock.{predictB, subPixel}
-use Rattle.intra_subblock.proofs.predict_b4x4.Statement.{statement}
-use Rattle.intra_subblock.proofs.predict_b4x4.Tie as tie
+use Rattle.intra_subblock.proofs.predict_b4x4_into.Statement.{statement}
+use Rattle.intra_subblock.proofs.predict_b4x4_into.Tie as tie
 
-pub predict-b4x4-spec : {M : Type 1} → statement M
+pub predict-b4x4-into-spec : {M : Type 1} → statement M
 unfolding predictB subPixel
-predict-b4x4-spec =
+predict-b4x4-into-spec =
     tie.close
     (tie.spec
     (λ c. search needs) (λ c κs. search needs) (λ c. search needs) (λ c κs. search needs) (λ c. search needs) (λ c κs. search needs)

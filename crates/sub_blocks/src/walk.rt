@@ -1,9 +1,10 @@
 // The sixteen sub-blocks in raster order. The residues of a block row are made first, four blocks side by side.
 ghost use mathlib.Core.Path.{_≡_};
-ghost use Prim.Native.Nat.{_<_};
+ghost use Prim.Native.Nat.{_*_, _<_};
 ghost use mathlib.Core.Bool.{true, false};
 ghost use Rattle.lists.specs.Lists.{turns};
 ghost use Rattle.rfc6386.specs.Walk.{walked, yParts};
+ghost use Rattle.blocks.specs.Taken.{residuesFrom};
 ghost use Rattle.sub_blocks.specs.Steps.{codedBlock, codedAt, skippedBlock, skippedAt};
 use crate::put::put_block;
 use crate::put::sum_block;
@@ -34,11 +35,19 @@ fn coded_row(b: &mut [u8; LENGTH], modes: [IntraBmode; 16], o: &[i16; 64], i: us
     }
 }
 
+// The residues of block row i.
+fn residues_of(coeffs: &[i16], i: usize) -> [i16; 64]
+    requires { ⌜ i < 4 ⌝ }
+    ensures { λ r. ⌜ r ≡ residuesFrom (now (coeffs .entry)) (64 * i) ⌝ }
+{
+    blocks::residues(coeffs, 64 * i)
+}
+
 fn walk_coded(b: &mut [u8; LENGTH], modes: [IntraBmode; 16], coeffs: &[i16])
     ensures { λ _. ⌜ now (b .exit) ≡ walked 16 modes false (now (coeffs .entry)) (now (b .entry)) ⌝ }
 {
     for i in 0..4 {
-        let o = blocks::residues(coeffs, 64 * i);
+        let o = residues_of(coeffs, i);
         coded_row(b, modes, &o, i);
     }
 }

@@ -22,7 +22,7 @@ unfolding turns
 loop-holds c = (omega arith, refl)
 
 loop-again : tie.Need-loop-again Inv-loop μ-loop
-loop-again c = (omega arith, turns-step _ _ _ _ _ (c .before .before .before .before .before .loop .inv .1) (rw (c .coded-row .ensures, c .before .before .before .residues .ensures)))
+loop-again c = (omega arith, turns-step _ _ _ _ _ (c .before .before .before .before .before .loop .inv .1) (rw (c .coded-row .ensures, c .before .before .before .residues-of .ensures)))
 
 returns : tie.Need-returns Inv-loop μ-loop
 returns c = turns-done _ _ _ _ _ (c .before .loop .inv .1) (c .before .loop .inv .0) (c .loop-test .left) ∙ coded-rows _ _ _
@@ -34,7 +34,6 @@ walk-coded-spec =
     Inv-loop
     μ-loop
     loop-holds
-    (λ c. omega arith)
     (λ c κs. search needs)
     (λ c κs. search needs)
     (λ c. omega arith)

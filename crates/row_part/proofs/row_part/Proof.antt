@@ -1,4 +1,4 @@
--- `gathering::part::row_part` meets its contract. Where the part is given it lies in the plane, so that no sum wraps. Assumes nothing.
+-- `row_part::row_part` meets its contract. Where the part is given it lies in the plane, so that no sum wraps. Assumes nothing.
 use Prim.Native.Nat.{_+_, _*_, _≤_}
 use mathlib.Core.Path.{sym, _∙_}
 use native.Mathlib.Nat.{add-sub-cancel-left}
@@ -7,10 +7,10 @@ use denote.Ref.{now}
 use lib.ListN.{length}
 use borrow.Author.Needs.{needs}
 use Rattle.rfc6386.specs.Picture.{rowPart}
-use Rattle.gathering.specs.Answers.{partStart}
-use Rattle.gathering.proofs.Given.{given-says}
-use Rattle.gathering.proofs.part.row_part.Statement.{statement}
-use Rattle.gathering.proofs.part.row_part.Tie as tie
+use Rattle.row_part.specs.Start.{partStart}
+use Rattle.row_part.proofs.Given.{given-says}
+use Rattle.row_part.proofs.row_part.Statement.{statement}
+use Rattle.row_part.proofs.row_part.Tie as tie
 
 room : (c : tie.Then1) → (let a = c .before .before .before .args in a .row * a .stride + a .column + a .count ≤ length (now (a .plane)))
 room c = given-says _ _ _ _ _ (sym (c .before .part-given .ensures) ∙ c .if1 .taken) .2

@@ -1,9 +1,9 @@
--- `gathering::part::part_given` meets its contract: each test that fails excludes one of the three conditions. Assumes nothing.
+-- `row_part::part_given` meets its contract: each test that fails excludes one of the three conditions. Assumes nothing.
 use native.Mathlib.Omega.{arith}
 use borrow.Author.Needs.{needs}
-use Rattle.gathering.proofs.Given.{not-given, is-given, row-fits, row-passes}
-use Rattle.gathering.proofs.part.part_given.Statement.{statement}
-use Rattle.gathering.proofs.part.part_given.Tie as tie
+use Rattle.row_part.proofs.Given.{not-given, is-given, row-fits, row-passes}
+use Rattle.row_part.proofs.part_given.Statement.{statement}
+use Rattle.row_part.proofs.part_given.Tie as tie
 
 returns : tie.Need-returns
 returns c = not-given _ _ _ _ _ (λ p q t. omega arith)

@@ -2,7 +2,7 @@
 ghost use mathlib.Core.Path.{_≡_};
 ghost use lib.ListN.{length};
 ghost use Rattle.rfc6386.specs.Picture.{given, rowPart};
-ghost use Rattle.gathering.specs.Answers.{partStart};
+ghost use Rattle.row_part.specs.Start.{partStart};
 
 // The `count` pixels from row `row` and column `column` on, a part of the lent plane itself; where the row or the plane
 // does not have them, an empty part at the plane's start. The promise says both: the bytes, and where they lie.

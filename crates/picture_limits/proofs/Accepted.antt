@@ -1,18 +1,15 @@
--- What the tests of the size and the place (`Within`) and of the planes' lengths (`Lengths`) say, and that a macroblock of such a picture lies in each plane.
+-- What the tests of the size and the place (`Within`) and of the planes' lengths (`Lengths`) say.
 -- Assumes nothing.
-use Prim.Native.Nat.{ℕ, suc, _+_, _*_, _/_, _%_, _<_, _≤_}
+use Prim.Native.Nat.{ℕ, _+_, _*_, _/_, _%_, _<_, _≤_}
 use mathlib.Core.Bool.{true, false}
-use mathlib.Core.Path.{_≡_, sym, ap, _∙_}
-use mathlib.Core.List.{List}
-use native.Mathlib.Nat.{mul-le-mul-left, mul-suc, mul-assoc, mul-comm, mul-left-comm, mul-div-cancel-left, mul-mod-right, div-add-mod}
+use mathlib.Core.Path.{_≡_, sym}
+use native.Mathlib.Nat.{mul-div-cancel-left, mul-mod-right, div-add-mod}
 use native.Mathlib.Omega.{arith}
 use lib.Dec.{leb, ltb, eqb, leb→le, ltb→lt, eqb→eq, eqb-refl}
-use lib.ListN.{length}
-use borrow.Author.Tests.{lt-ltb, le-leb, eq-eqb, ne-eqb, eqb-true, eqb-false}
+use borrow.Author.Tests.{lt-ltb, le-leb, eq-eqb, ne-eqb, eqb-true}
 use Rattle.lists.specs.Lists.{both}
-use Rattle.lists.proofs.Tests.{both-says, T-true, same-test}
-use Rattle.rfc6386.specs.Picture.{placeOk, sizesOk}
-use Rattle.gathering.specs.Place.{Placed}
+use Rattle.lists.proofs.Tests.{both-says, T-true, true-T, same-test}
+use Rattle.rfc6386.specs.Picture.{placeOk, lumaOk, sizesOk}
 
 pub record Within (w h c r : ℕ) : Type 0 where
   pub width : w ≤ 1024
@@ -61,19 +58,32 @@ module _ (y u v w h : ℕ) where
   unfolding sizesOk
   sizes-true p = rw (eq-eqb y (256 * (w * h)) (p .y-plane), eq-eqb u (64 * (w * h)) (p .u-plane), eq-eqb v (64 * (w * h)) (p .v-plane))
 
-  -- the macroblocks are counted by y: their number is w h, or one of the lengths is wrong
-  module _ (n : ℕ) (m : n ≡ y / 256) where
-    pub sizes-miscount : eqb n (w * h) ≡ false → sizesOk y u v w h ≡ false
-    sizes-miscount e = sizes-false (λ p. eqb-false n (w * h) e (omega arith))
+  -- where the luma plane fits, y counts the macroblocks, and all hangs on the other two
+  pub sizes-luma : lumaOk y w h ≡ false → sizesOk y u v w h ≡ false
+  unfolding sizesOk
+  sizes-luma e = rw e
 
-    pub sizes-other : eqb n (w * h) ≡ true → (u ≡ 64 * n → ⊥) → sizesOk y u v w h ≡ false
-    sizes-other e k = let t : n ≡ w * h = eqb-true n (w * h) e in sizes-false (λ p. k (omega arith))
+  module _ (e : lumaOk y w h ≡ true) (n : ℕ) (m : n ≡ y / 256) where
+    pub sizes-other : (u ≡ 64 * n → ⊥) → sizesOk y u v w h ≡ false
+    sizes-other k = let t : y ≡ 256 * (w * h) = eqb-true y (256 * (w * h)) e in sizes-false (λ p. k (omega arith))
 
-    pub sizes-last : eqb n (w * h) ≡ true → y % 256 ≡ 0 → u ≡ 64 * n → eqb v (64 * n) ≡ sizesOk y u v w h
+    pub sizes-last : u ≡ 64 * n → eqb v (64 * n) ≡ sizesOk y u v w h
     unfolding sizesOk
-    sizes-last e z q =
-        let p : y ≡ 256 * n = omega arith in
-        rw (← eqb-true n (w * h) e) (rw (eq-eqb y (256 * n) p, eq-eqb u (64 * n) q))
+    sizes-last q =
+        let t : y ≡ 256 * (w * h) = eqb-true y (256 * (w * h)) e in
+        let p : n ≡ w * h = omega arith in
+        rw (e, ← p) (rw (eq-eqb u (64 * n) q))
+
+-- the luma plane, by the number of macroblocks that it has room for
+module _ (y w h : ℕ) where
+  pub luma-ragged : (y % 256 ≡ 0 → ⊥) → lumaOk y w h ≡ false
+  luma-ragged k = ne-eqb y (256 * (w * h)) (λ e. k (omega arith))
+
+  pub luma-counted : y % 256 ≡ 0 → eqb (y / 256) (w * h) ≡ lumaOk y w h
+  luma-counted z =
+      same-test (eqb (y / 256) (w * h)) (eqb y (256 * (w * h)))
+      (λ t. let e : y / 256 ≡ w * h = eqb→eq _ _ t in let f : y ≡ 256 * (w * h) = omega arith in true-T (sym (eq-eqb _ _ f)))
+      (λ t. let e : y ≡ 256 * (w * h) = eqb→eq _ _ t in let f : y / 256 ≡ w * h = omega arith in true-T (sym (eq-eqb _ _ f)))
 
 -- n is w h exactly where w divides n and the quotient is h
 pub quotient-is : (n w h : ℕ) → 0 < w → n % w ≡ 0 → eqb (n / w) h ≡ eqb n (w * h)
@@ -85,12 +95,3 @@ quotient-is n w h p q =
 
 pub no-quotient : (n w h : ℕ) → (n % w ≡ 0 → ⊥) → false ≡ eqb n (w * h)
 no-quotient n w h k = sym (ne-eqb n (w * h) (λ e. k (rw e (mul-mod-right w h))))
-
--- n rows a macroblock, n n w h pixels in all
-pub placed : (n : ℕ) (l : List ℕ) (w h c r : ℕ) → 1 ≤ n → c < w → r < h → length l ≡ n * n * (w * h) → Placed n l w r c
-placed n l w h c r s a d e =
-    let k : n * suc r ≤ n * h = mul-le-mul-left n d in
-    let m : n * w * (n * suc r) ≤ n * w * (n * h) = mul-le-mul-left (n * w) k in
-    let f : n * w * (n * h) ≡ n * n * (w * h) = mul-assoc n w (n * h) ∙ ap (λ (t : ℕ). n * t) (mul-left-comm w n h) ∙ sym (mul-assoc n n (w * h)) in
-    let g : (n * r + n) * (n * w) ≡ n * w * (n * suc r) = mul-comm (n * r + n) (n * w) ∙ ap (λ (t : ℕ). n * w * t) (sym (mul-suc n r)) in
-    record { some = s; across = a; down = rw (g, e, ← f) m }

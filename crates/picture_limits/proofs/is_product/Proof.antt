@@ -1,10 +1,10 @@
--- `gathering::limits::is_product` meets its contract: the quotient says whether n is the product. Assumes nothing.
+-- `picture_limits::is_product` meets its contract: the quotient says whether n is the product. Assumes nothing.
 use native.Mathlib.Nat.{zero-mul}
 use native.Mathlib.Omega.{arith}
 use borrow.Author.Needs.{needs}
-use Rattle.gathering.proofs.Accepted.{quotient-is, no-quotient}
-use Rattle.gathering.proofs.limits.is_product.Statement.{statement}
-use Rattle.gathering.proofs.limits.is_product.Tie as tie
+use Rattle.picture_limits.proofs.Accepted.{quotient-is, no-quotient}
+use Rattle.picture_limits.proofs.is_product.Statement.{statement}
+use Rattle.picture_limits.proofs.is_product.Tie as tie
 
 returns : tie.Need-returns
 returns c = rw (c .if1 .taken, zero-mul)

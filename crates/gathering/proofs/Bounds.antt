@@ -1,17 +1,30 @@
 -- A macroblock that lies in its plane: the bounds that its edges keep to, over the side n, and that the code's copies of a part of the row
--- above and of the left column find all their pixels.
+-- above and of the left column find all their pixels; and that a macroblock of an accepted picture lies in each plane.
 -- Assumes nothing.
 use Prim.Native.Nat.{ℕ, suc, _+_, _-_, _*_, _<_, _≤_}
-use mathlib.Core.Path.{_≡_}
+use mathlib.Core.Path.{_≡_, sym, ap, _∙_}
 use mathlib.Core.List.{List}
-use native.Mathlib.Nat.{mul-le-mul-left, mul-le-mul-right, mul-le-mul, mul-suc, suc-mul, mul-one, one-mul, add-mul, le-refl}
+use native.Mathlib.Nat.{
+  mul-le-mul-left,
+  mul-le-mul-right,
+  mul-le-mul,
+  mul-suc,
+  suc-mul,
+  mul-one,
+  one-mul,
+  add-mul,
+  le-refl,
+  mul-assoc,
+  mul-comm,
+  mul-left-comm,
+}
 use native.Mathlib.Omega.{arith}
 use lib.ListN.{length, getD, take, drop, replicate, length-replicate}
-use lib.Seq.{take-take}
+use lib.Seq.{take-all, take-take}
 use Rattle.lists.specs.Lists.{table}
 use Rattle.rfc6386.specs.Picture.{rowPart}
 use Rattle.gathering.specs.Place.{Placed}
-use Rattle.gathering.proofs.Given.{part-is, part-length}
+use Rattle.row_part.proofs.Given.{part-is, part-length}
 
 pub record Bounds (n : ℕ) (l : List ℕ) (w r c : ℕ) : Type 0 where
   pub column : n * c + n ≤ n * w
@@ -72,3 +85,20 @@ module _ {n : ℕ} {l : List ℕ} {w r c : ℕ} (p : Placed n l w r c) where
     pub column-drawn : (at : ℕ) (ys : List ℕ) → ys ≡ table (length xs) (λ i. getD l (at + i * (n * w)) 0)
         → ys ≡ table n (λ i. getD l (at + i * (n * w)) 0)
     column-drawn at ys e = rw (z, length-replicate) at e
+
+-- the given pixels, copied into as many zero bytes
+module _ (xs right : List ℕ) (z : xs ≡ replicate 4 0) (e : length right ≡ 4) where
+  pub given-fits : length xs ≤ length right
+  given-fits = rw (z, e) (le-refl 4)
+
+  pub given-copied : (ys : List ℕ) → ys ≡ take (length xs) right → ys ≡ right
+  given-copied ys f = rw (f, z) (take-all 4 right (omega arith))
+
+-- n rows a macroblock, n n w h pixels in all
+pub placed : (n : ℕ) (l : List ℕ) (w h c r : ℕ) → 1 ≤ n → c < w → r < h → length l ≡ n * n * (w * h) → Placed n l w r c
+placed n l w h c r s a d e =
+    let k : n * suc r ≤ n * h = mul-le-mul-left n d in
+    let m : n * w * (n * suc r) ≤ n * w * (n * h) = mul-le-mul-left (n * w) k in
+    let f : n * w * (n * h) ≡ n * n * (w * h) = mul-assoc n w (n * h) ∙ ap (λ (t : ℕ). n * t) (mul-left-comm w n h) ∙ sym (mul-assoc n n (w * h)) in
+    let g : (n * r + n) * (n * w) ≡ n * w * (n * suc r) = mul-comm (n * r + n) (n * w) ∙ ap (λ (t : ℕ). n * w * t) (sym (mul-suc n r)) in
+    record { some = s; across = a; down = rw (g, e, ← f) m }

@@ -1,0 +1,31 @@
+-- A copying loop, and what a copy leaves where the lengths agree or differ. Assumes nothing.
+use mathlib.Core.Path.{_≡_, refl, sym, _∙_}
+use mathlib.Core.Bool.{true, false}
+use mathlib.Core.List.{List, _++_}
+use Prim.Native.Nat.{ℕ}
+use native.Mathlib.Nat.{le-of-eq}
+use lib.ListN.{length, getD, drop, take, replicate}
+use lib.Seq.{take-all}
+use borrow.Author.Tests.{eq-eqb}
+use Rattle.lists.specs.Lists.{table}
+use Rattle.slices.specs.Copies.{orZeros, putIn, copied}
+use Rattle.lists.proofs.Table.{table-done, table-take}
+
+module _ {A : Type 0} where
+  -- a loop that fills d from the front with the elements of s has made it s
+  pub table-copied : (n : ℕ) (s d xs : List A) (z : A) → xs ≡ table n (λ i. getD s i z) ++ drop n d → length d ≡ n → length s ≡ n → xs ≡ s
+  table-copied n s d xs z e p q =
+      table-done n (λ i. getD s i z) d xs e p ∙ table-take n s z (le-of-eq (sym q)) ∙ take-all n s (le-of-eq q)
+
+  -- ---- where the length fits
+  pub or-zeros-fit : (z : A) (n : ℕ) (s : List A) → length s ≡ n → orZeros z n s ≡ s
+  unfolding orZeros
+  or-zeros-fit z n s e = rw (eq-eqb n (length s) (sym e)) refl
+
+  pub put-fit : (n : ℕ) (from to : List A) → length to ≡ n → putIn n from to ≡ from
+  unfolding putIn
+  put-fit n from to e = rw (eq-eqb (length to) n e) refl
+
+  pub copied-fit : (from to : List A) → length to ≡ length from → copied from to ≡ from
+  unfolding copied
+  copied-fit from to e = rw (eq-eqb (length to) (length from) e) refl

@@ -1,0 +1,19 @@
+-- `slices::copy` meets its contract. Assumes nothing.
+use mathlib.Core.Path.{_∙_, refl, sym}
+use native.Mathlib.Omega.{arith}
+use borrow.Author.Needs.{needs}
+use borrow.Author.Tests.{eq-eqb, ne-eqb}
+use Rattle.slices.specs.Copies.{copied}
+use Rattle.slices.proofs.copy.Statement.{statement}
+use Rattle.slices.proofs.copy.Tie as tie
+
+returns : tie.Need-returns
+unfolding copied
+returns c = rw (eq-eqb _ _ (c .before .before .before .before .if1 .taken)) (c .before .before .copy-all .ensures)
+
+returns-2 : tie.Need-returns-2
+unfolding copied
+returns-2 c = rw (ne-eqb _ _ (c .if1 .left)) refl
+
+pub copy-spec : {M : Type 1} → statement M
+copy-spec = tie.close (tie.spec (λ c κs. search needs) (λ c. search needs) returns returns-2)

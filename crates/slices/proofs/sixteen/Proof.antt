@@ -1,0 +1,12 @@
+-- `slices::sixteen` meets its contract. Assumes nothing.
+use borrow.Author.Needs.{needs}
+use Rattle.slices.specs.Copies.{copied, orZeros}
+use Rattle.slices.proofs.sixteen.Statement.{statement}
+use Rattle.slices.proofs.sixteen.Tie as tie
+
+returns : tie.Need-returns
+unfolding copied orZeros
+returns c = c .before .copy .ensures
+
+pub sixteen-spec : {M : Type 1} → statement M
+sixteen-spec = tie.close (tie.spec (λ c. search needs) (λ c κs. search needs) returns)

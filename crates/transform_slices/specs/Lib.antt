@@ -1,0 +1,2 @@
+-- The transforms over lent slices.
+pub mod Answers

@@ -1,5 +1,6 @@
 -- `gathering::edges::above_right` meets its contract: below the first row and before the last column the plane has the part, and all of
 -- it is copied; in the last column the given pixels are. Assumes nothing.
+use Prim.Native.Nat.{_+_}
 use native.Mathlib.Omega.{arith}
 use borrow.Author.Needs.{needs}
 use borrow.Author.Tests.{lt-ltb, le-ltb}
@@ -22,9 +23,10 @@ unfolding aboveRightOf
 returns c =
     let e = c .before .before .before .before in
     let t = e .before in
-    let b = t .before .before .before .before .pre in
-    rw (lt-ltb _ _ (t .before .if1 .taken), lt-ltb _ _ (t .if2 .taken))
-    (upper-copied (b .0) (t .before .if1 .taken) _ _ (omega arith) (omega arith) _ _ (b .1) (e .row-part .ensures .0) _ (c .before .before .copy .ensures))
+    let b = t .before .before .before .before in
+    rw (lt-ltb _ _ (t .before .if1 .taken), lt-ltb (b .args .c + 1) (b .args .w) (omega arith))
+    (upper-copied (b .pre .0) (t .before .if1 .taken) _ _ (omega arith) (omega arith) _ _ (b .pre .1) (e .row-part .ensures .0) _
+    (c .before .before .copy .ensures))
 
 copy-requires-2 : tie.Need-copy-requires-2
 copy-requires-2 c κs =
@@ -36,7 +38,7 @@ unfolding aboveRightOf
 returns-2 c =
     let t = c .before .before .before .before .before in
     let b = t .before .before .before .before in
-    rw (lt-ltb _ _ (t .before .if1 .taken), le-ltb _ _ (t .if2 .left))
+    rw (lt-ltb _ _ (t .before .if1 .taken), le-ltb (b .args .c + 1) (b .args .w) (omega arith))
     (given-copied (b .args .dst .now) (b .args .given .now) (b .pre .1) (omega arith) _ (c .before .before .copy2 .ensures))
 
 returns-3 : tie.Need-returns-3

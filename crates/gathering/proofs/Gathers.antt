@@ -13,7 +13,7 @@ use Rattle.rfc6386.specs.Picture.{neighborsOf, placeOk}
 use Rattle.gathering.specs.declared.Gathered.{Gathered}
 use Rattle.gathering.specs.Answers.{gathered, refused}
 use Rattle.picture_limits.proofs.Accepted.{Within, Lengths, place-true, place-false, sizes-true, sizes-false}
-use Rattle.gathering.proofs.Bounds.{placed}
+use Rattle.picture_limits.proofs.Bounds.{placed}
 use Rattle.gathering.proofs.Pixels.{Absent, There, Around, around, right-outside, right-given, right-beside}
 
 module _ (y u v : List ℕ) (w h c r : ℕ) (right : List ℕ) (g : Gathered) (e : g ≡ gathered y u v w h c r right) where

@@ -14,9 +14,9 @@ use borrow.Author.Tests.{lt-ltb, le-ltb}
 use Rattle.lists.proofs.Table.{table-length, table-at}
 use Rattle.lists.proofs.Rows.{row-within}
 use Rattle.rfc6386.specs.Picture.{aboveThere, leftThere, topLeftThere, aboveRightThere, aboveOf, leftOf, topLeftOf, aboveRightOf}
-use Rattle.gathering.specs.Place.{Placed}
+use Rattle.picture_limits.specs.Place.{Placed}
 use Rattle.row_part.proofs.Given.{piece-length, piece-at}
-use Rattle.gathering.proofs.Bounds.{above, left}
+use Rattle.picture_limits.proofs.Bounds.{above, left}
 
 -- an edge and its mark: absent, k bytes 0
 pub record Absent (k : ℕ) (mark : Bool) (bytes : List ℕ) : Type 0 where

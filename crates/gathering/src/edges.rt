@@ -6,7 +6,8 @@ ghost use Prim.Native.Nat.{_+_, _*_, _≤_, _<_};
 ghost use lib.ListN.{length, take, getD, replicate};
 ghost use Rattle.lists.specs.Lists.{table};
 ghost use Rattle.rfc6386.specs.Picture.{aboveOf, leftOf, topLeftOf, aboveRightOf};
-ghost use Rattle.gathering.specs.Place.{Placed, Edges};
+ghost use Rattle.picture_limits.specs.Place.{Placed};
+ghost use Rattle.gathering.specs.Edges.{Edges};
 use macroblock::MbNeighbors;
 use row_part::row_part;
 

@@ -2,7 +2,8 @@
 // them are there.
 ghost use mathlib.Core.Path.{_≡_};
 ghost use Rattle.rfc6386.specs.Picture.{aboveRightOf, neighborsOf};
-ghost use Rattle.gathering.specs.Place.{Placed, Edges};
+ghost use Rattle.picture_limits.specs.Place.{Placed};
+ghost use Rattle.gathering.specs.Edges.{Edges};
 use crate::edges::above_right;
 use crate::edges::plane_edges;
 use macroblock::MbNeighbors;

@@ -4,7 +4,7 @@ use native.Mathlib.Omega.{arith}
 use borrow.Author.Needs.{needs}
 use Rattle.gathering.specs.Answers.{gathered}
 use Rattle.picture_limits.proofs.Accepted.{place-says, sizes-say}
-use Rattle.gathering.proofs.Bounds.{placed}
+use Rattle.picture_limits.proofs.Bounds.{placed}
 use Rattle.gathering.proofs.gather.Statement.{statement}
 use Rattle.gathering.proofs.gather.Tie as tie
 

@@ -8,10 +8,10 @@ use lib.Dec.{ltb, ltb→lt}
 use lib.ListN.{length}
 use borrow.Author.Tests.{lt-ltb, le-ltb, eqb-true}
 use Rattle.lists.specs.Lists.{pick}
-use Rattle.lists.proofs.Tests.{both-says, T-true}
+use Rattle.lists.proofs.Tests.{both-says, T-true, same-test}
 use Rattle.rfc6386.specs.Picture.{placeOk, lumaOk}
 use Rattle.picture_limits.specs.Place.{Placed}
-use Rattle.picture_limits.proofs.Accepted.{Within, place-says}
+use Rattle.picture_limits.proofs.Accepted.{Within, place-says, place-true}
 use Rattle.picture_limits.proofs.Bounds.{above, placed}
 use Rattle.right_pixels.specs.declared.RightPixels.{RightPixels}
 use Rattle.right_pixels.specs.Answers.{rowOk, rightPixels}
@@ -30,6 +30,13 @@ module _ (w h r : ℕ) where
   pub row-later : (r ≡ 0 → ⊥) → placeOk w h 0 r ≡ rowOk w h r
   unfolding rowOk
   row-later k = let z : 0 < r = omega arith in rw (lt-ltb 0 r z)
+
+  pub row-true : 1 ≤ r → Within w h 0 r → rowOk w h r ≡ true
+  unfolding rowOk
+  row-true a b = rw (lt-ltb 0 r a, place-true w h 0 r b)
+
+  pub row-false : (1 ≤ r → Within w h 0 r → ⊥) → rowOk w h r ≡ false
+  row-false k = same-test (rowOk w h r) false (λ t. let a = row-says (T-true _ t) in k (a .0) (a .1)) (λ t. absurd t)
 
   -- the last macroblock's row lies in an accepted plane
   pub row-placed : (y : List ℕ) → rowOk w h r ≡ true → lumaOk (length y) w h ≡ true → Placed 16 y w r 0 × (1 ≤ r)

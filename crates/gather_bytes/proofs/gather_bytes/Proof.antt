@@ -1,48 +1,35 @@
+-- `gather_bytes::gather_bytes` meets its contract: the record is the bytes of what gathering gives. Assumes nothing.
+use Prim.Native.Nat.{ℕ}
+use mathlib.Core.Path.{refl, sym, ap, _∙_}
+use mathlib.Core.List.{List}
+use lib.ListN.{length}
 use borrow.Author.Needs.{needs}
+use borrow.Author.Tests.{eq-eqb, ne-eqb}
+use Rattle.slices.proofs.Copied.{copied-fit, or-zeros-fit}
+use Rattle.gather_bytes.specs.Answer.{gatherAnswer}
+use Rattle.gather_bytes.proofs.Bytes.{bytes-number, bytes-made}
 use Rattle.gather_bytes.proofs.gather_bytes.Statement.{statement}
 use Rattle.gather_bytes.proofs.gather_bytes.Tie as tie
-use Rattle.gather_bytes.proofs.gather_bytes.Reads as reads
-use Rattle.gather_bytes.proofs.gather_bytes.Lts as lts
-use Rattle.gathering.proofs.gather.Reads as gather-reads
-use Rattle.record_bytes.proofs.bytes_of.Reads as bytes-of-reads
-use Rattle.slices.proofs.copy.Reads as copy-reads
-use Rattle.slices.proofs.four.Reads as four-reads
 
--- src/lib.rt:24:9
 returns : tie.Need-returns
-returns c = ?
+unfolding gatherAnswer
+returns c = rw (ne-eqb _ _ (c .if1 .taken)) refl
 
--- src/lib.rt:27:9
 returns-2 : tie.Need-returns-2
-returns-2 c = ?
+unfolding gatherAnswer
+returns-2 c = rw (eq-eqb _ _ (c .before .if1 .left), ne-eqb _ _ (c .if2 .taken)) refl
 
--- src/lib.rt:29:62
-four-requires : tie.Need-four-requires
-four-requires c κs = search needs
-
--- src/lib.rt:29:9
-gather-requires : tie.Need-gather-requires
-gather-requires c κs = search needs
-
--- src/lib.rt:30:17
-bytes-of-requires : tie.Need-bytes-of-requires
-bytes-of-requires c κs = search needs
-
--- src/lib.rt:31:26
-slice-aggregate-copy : tie.Need-slice-aggregate-copy
-slice-aggregate-copy c = search needs
-
--- src/lib.rt:31:5
-copy-requires : tie.Need-copy-requires
-copy-requires c κs = search needs
-
--- src/lib.rt:9:1
-same-length : tie.Need-same-length
-same-length c = search needs
-
--- src/lib.rt:9:1
 returns-3 : tie.Need-returns-3
-returns-3 c = ?
+unfolding gatherAnswer
+returns-3 c =
+    let b = c .before .before .before .before .before in
+    let f = b .before .before in
+    let one = f .before .before .if1 .left in
+    let two = f .before .if2 .left in
+    let n = ap (λ (l : List ℕ). length l) (b .bytes-of .ensures) ∙ bytes-number _ in
+    rw (eq-eqb _ _ one, eq-eqb _ _ two)
+    (bytes-made _ _ _ _ _ _ _ (b .before .gather .ensures) (f .four .ensures ∙ or-zeros-fit 0 4 _ two)
+    (c .before .before .copy .ensures ∙ copied-fit _ _ (one ∙ sym n) ∙ b .bytes-of .ensures))
 
 pub gather-bytes-spec : {M : Type 1} → statement M
 gather-bytes-spec =
@@ -50,10 +37,10 @@ gather-bytes-spec =
     (tie.spec
     returns
     returns-2
-    four-requires
-    gather-requires
-    bytes-of-requires
-    slice-aggregate-copy
-    copy-requires
-    same-length
+    (λ c κs. search needs)
+    (λ c κs. search needs)
+    (λ c κs. search needs)
+    (λ c. search needs)
+    (λ c κs. search needs)
+    (λ c. search needs)
     returns-3)

@@ -2,6 +2,7 @@
 use Prim.Native.Nat.{ℕ}
 use mathlib.Core.Path.{refl, sym, ap, _∙_}
 use mathlib.Core.List.{List}
+use native.Mathlib.Omega.{arith}
 use lib.ListN.{length}
 use borrow.Author.Needs.{needs}
 use borrow.Author.Tests.{eq-eqb, ne-eqb}
@@ -17,7 +18,9 @@ returns c = rw (ne-eqb _ _ (c .if1 .taken)) refl
 
 returns-2 : tie.Need-returns-2
 unfolding gatherAnswer
-returns-2 c = rw (eq-eqb _ _ (c .before .if1 .left), ne-eqb _ _ (c .if2 .taken)) refl
+returns-2 c =
+    let a = c .before .before .before .before .before .before .before .args in
+    rw (eq-eqb _ _ (c .before .if1 .left), ne-eqb (length (a .right .now)) 4 (λ z. omega arith)) refl
 
 returns-3 : tie.Need-returns-3
 unfolding gatherAnswer

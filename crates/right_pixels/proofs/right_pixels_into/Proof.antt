@@ -2,6 +2,7 @@
 use Prim.Native.Nat.{ℕ}
 use mathlib.Core.Path.{refl, sym, ap, _∙_}
 use mathlib.Core.List.{List}
+use native.Mathlib.Omega.{arith}
 use lib.ListN.{length}
 use borrow.Author.Needs.{needs}
 use borrow.Author.Tests.{eq-eqb, ne-eqb}
@@ -15,7 +16,7 @@ use Rattle.right_pixels.proofs.right_pixels_into.Tie as tie
 
 returns : tie.Need-returns
 unfolding rightAnswer
-returns c = rw (ne-eqb _ _ (c .if1 .taken)) refl
+returns c = let a = c .before .before .before .args in rw (ne-eqb (length (a .out .now)) 4 (λ z. omega arith)) refl
 
 returns-2 : tie.Need-returns-2
 unfolding rightAnswer

@@ -15,6 +15,16 @@ use Rattle.slices.proofs.sixteen.Reads as sixteen
 use Rattle.slices.proofs.sixteen.Kinds as sixteen-k
 use Rattle.slices.proofs.eight.Reads as eight
 use Rattle.slices.proofs.eight.Kinds as eight-k
+use Rattle.slices.proofs.put_luma.Reads as put-luma
+use Rattle.slices.proofs.put_luma.Kinds as put-luma-k
+use Rattle.slices.proofs.put_chroma.Reads as put-chroma
+use Rattle.slices.proofs.put_chroma.Kinds as put-chroma-k
+use Rattle.slices.proofs.put_sub_block.Reads as put-sub-block
+use Rattle.slices.proofs.put_sub_block.Kinds as put-sub-block-k
+use Rattle.slices.proofs.put_record.Reads as put-record
+use Rattle.slices.proofs.put_record.Kinds as put-record-k
+use Rattle.slices.proofs.record.Reads as read-record
+use Rattle.slices.proofs.record.Kinds as read-record-k
 use Rattle.slices.proofs.four.Reads as four
 use Rattle.slices.proofs.four.Kinds as four-k
 
@@ -41,3 +51,18 @@ eight-one κs a x y s t = same
 
 pub four-one : OneAnswer 1 four-k.ps four-k.r four.Post
 four-one κs a x y s t = same
+
+pub put-luma-one : OneAnswerIn 1 put-luma-k.ps put-luma-k.r put-luma.Post (λ κs s. s .0 .now)
+put-luma-one κs a x y s t p q = (refl, same p q)
+
+pub put-chroma-one : OneAnswerIn 1 put-chroma-k.ps put-chroma-k.r put-chroma.Post (λ κs s. s .0 .now)
+put-chroma-one κs a x y s t p q = (refl, same p q)
+
+pub put-sub-block-one : OneAnswerIn 1 put-sub-block-k.ps put-sub-block-k.r put-sub-block.Post (λ κs s. s .0 .now)
+put-sub-block-one κs a x y s t p q = (refl, same p q)
+
+pub put-record-one : OneAnswerIn 1 put-record-k.ps put-record-k.r put-record.Post (λ κs s. s .0 .now)
+put-record-one κs a x y s t p q = (refl, same p q)
+
+pub record-one : OneAnswer 1 read-record-k.ps read-record-k.r read-record.Post
+record-one κs a x y s t = same

@@ -92,3 +92,37 @@ pub fn four(from: &[u8]) -> [u8; 4]
     copy(&mut a, from);
     a
 }
+
+// So many pixels written; nothing into a slice of another length.
+pub fn put_luma(to: &mut [u8], block: [u8; 256])
+    ensures { λ _. ⌜ now (to .exit) ≡ putIn 256 block (now (to .entry)) ⌝ }
+{
+    copy(to, &block);
+}
+
+pub fn put_chroma(to: &mut [u8], block: [u8; 64])
+    ensures { λ _. ⌜ now (to .exit) ≡ putIn 64 block (now (to .entry)) ⌝ }
+{
+    copy(to, &block);
+}
+
+pub fn put_sub_block(to: &mut [u8], block: [u8; 16])
+    ensures { λ _. ⌜ now (to .exit) ≡ putIn 16 block (now (to .entry)) ⌝ }
+{
+    copy(to, &block);
+}
+
+// A neighbour record's 81 bytes, read and written.
+pub fn record(from: &[u8]) -> [u8; 81]
+    ensures { λ r. ⌜ r ≡ orZeros 0 81 (now (from .entry)) ⌝ }
+{
+    let mut a = [0u8; 81];
+    copy(&mut a, from);
+    a
+}
+
+pub fn put_record(to: &mut [u8], block: [u8; 81])
+    ensures { λ _. ⌜ now (to .exit) ≡ putIn 81 block (now (to .entry)) ⌝ }
+{
+    copy(to, &block);
+}

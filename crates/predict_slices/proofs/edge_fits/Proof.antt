@@ -1,0 +1,17 @@
+-- `predict_slices::edge_fits` meets its contract. Assumes nothing.
+use mathlib.Core.Path.{refl}
+use borrow.Author.Tests.{eq-eqb, ne-eqb}
+use Rattle.predict_slices.specs.Answers.{edgeFits}
+use Rattle.predict_slices.proofs.edge_fits.Statement.{statement}
+use Rattle.predict_slices.proofs.edge_fits.Tie as tie
+
+returns : tie.Need-returns
+unfolding edgeFits
+returns c = rw (eq-eqb _ _ (c .if1 .taken)) refl
+
+returns-2 : tie.Need-returns-2
+unfolding edgeFits
+returns-2 c = rw (ne-eqb _ _ (c .if1 .left)) refl
+
+pub edge-fits-spec : {M : Type 1} → statement M
+edge-fits-spec = tie.close (tie.spec returns returns-2)

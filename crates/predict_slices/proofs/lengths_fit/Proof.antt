@@ -1,0 +1,21 @@
+-- `predict_slices::lengths_fit` meets its contract. Assumes nothing.
+use mathlib.Core.Path.{refl, sym, _∙_}
+use borrow.Author.Tests.{not-true, not-false}
+use Rattle.predict_slices.specs.Answers.{lengthsFit}
+use Rattle.predict_slices.proofs.lengths_fit.Statement.{statement}
+use Rattle.predict_slices.proofs.lengths_fit.Tie as tie
+
+returns : tie.Need-returns
+unfolding lengthsFit
+returns c = rw (sym (c .before .edge-fits .ensures) ∙ not-true _ (c .if1 .taken)) refl
+
+returns-2 : tie.Need-returns-2
+unfolding lengthsFit
+returns-2 c = rw (sym (c .before .before .before .edge-fits .ensures) ∙ not-false _ (c .before .before .if1 .left), sym (c .before .edge-fits2 .ensures) ∙ not-true _ (c .if2 .taken)) refl
+
+returns-3 : tie.Need-returns-3
+unfolding lengthsFit
+returns-3 c = rw (sym (c .before .before .before .edge-fits .ensures) ∙ not-false _ (c .before .before .if1 .left), sym (c .before .edge-fits2 .ensures) ∙ not-false _ (c .if2 .left)) refl
+
+pub lengths-fit-spec : {M : Type 1} → statement M
+lengths-fit-spec = tie.close (tie.spec (λ c κs. tt) returns (λ c κs. tt) returns-2 returns-3)

@@ -1,0 +1,2 @@
+-- The predictors over lent slices.
+pub mod Answers

@@ -19,7 +19,8 @@ pub struct ReconstructedMb {
     pub v: [u8; 64],
 }
 
-fn refused(reply: u32) -> ReconstructedMb
+// A refusal: its number, and zero pixels.
+pub fn refused(reply: u32) -> ReconstructedMb
     ensures { λ r. ⌜ r ≡ refusal reply ⌝ }
 {
     let y = [0u8; 256];
@@ -32,7 +33,8 @@ fn refused(reply: u32) -> ReconstructedMb
     }
 }
 
-fn is_b(mode: IntraYMode) -> bool
+// Whether a luma mode is B.
+pub fn is_b(mode: IntraYMode) -> bool
     ensures { λ r. ⌜ r ≡ isB mode ⌝ }
 {
     match mode {

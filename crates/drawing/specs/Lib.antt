@@ -1,0 +1,2 @@
+-- One macroblock from its bytes.
+pub mod Drawn

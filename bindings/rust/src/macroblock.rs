@@ -133,8 +133,6 @@ pub fn gather(
 pub fn right_pixels(y: &[u8], cols: usize, rows: usize, row: usize) -> Result<[u8; 4], Reply> {
     let mut out = [0; 4];
     // SAFETY: the pointers and the lengths are those of the slice and of a local array, which alone is written.
-    answer(unsafe {
-        raw::zopredil_right_pixels(y.as_ptr(), y.len(), cols, rows, row, out.as_mut_ptr(), out.len())
-    })?;
+    answer(unsafe { raw::zopredil_right_pixels(y.as_ptr(), y.len(), cols, rows, row, out.as_mut_ptr(), out.len()) })?;
     Ok(out)
 }

@@ -221,7 +221,8 @@ fn planes_of_other_lengths() {
     for (y_len, u_len, v_len) in [(255, 64, 64), (257, 64, 64), (256, 63, 64), (256, 65, 64), (256, 64, 0)] {
         assert_eq!(gather(&y[..y_len], &u[..u_len], &u[..v_len], 1, 1, 0, 0, [9; 4]), Err(Reply::WrongLength));
     }
-    assert_eq!(gather(&[], &[], &[], 1, 1, 1, 0, [9; 4]), Err(Reply::OutsidePicture)); // 7 comes before 1
+    // 7 comes before 1
+    assert_eq!(gather(&[], &[], &[], 1, 1, 1, 0, [9; 4]), Err(Reply::OutsidePicture));
 }
 
 #[test]

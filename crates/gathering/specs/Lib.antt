@@ -1,3 +1,3 @@
--- What gathering answers, and when a macroblock lies in its plane.
-pub mod Place
+-- What gathering answers, and a name for its steps.
+pub mod Steps
 pub mod Answers

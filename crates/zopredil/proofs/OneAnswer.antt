@@ -23,6 +23,10 @@ use Rattle.zopredil.proofs.zopredil_predict_b4x4.Reads as predict-b4x4
 use Rattle.zopredil.proofs.zopredil_predict_b4x4.Kinds as predict-b4x4-k
 use Rattle.zopredil.proofs.zopredil_macroblock.Reads as macroblock
 use Rattle.zopredil.proofs.zopredil_macroblock.Kinds as macroblock-k
+use Rattle.zopredil.proofs.zopredil_gather.Reads as gather
+use Rattle.zopredil.proofs.zopredil_gather.Kinds as gather-k
+use Rattle.zopredil.proofs.zopredil_right_pixels.Reads as right-pixels
+use Rattle.zopredil.proofs.zopredil_right_pixels.Kinds as right-pixels-k
 
 pub y1-factors-one : OneAnswerIn 1 y1-factors-k.ps y1-factors-k.r y1-factors.Post (λ κs s. s .1 .1 .0 .now)
 y1-factors-one κs a x y s t = same-pair
@@ -56,3 +60,9 @@ predict-b4x4-one κs a x y s t = same-pair
 
 pub macroblock-one : OneAnswerIn 5 macroblock-k.ps macroblock-k.r macroblock.Post (λ κs s. s .1 .1 .1 .1 .0 .now)
 macroblock-one κs a x y s t = same-pair
+
+pub gather-one : OneAnswerIn 5 gather-k.ps gather-k.r gather.Post (λ κs s. s .1 .1 .1 .1 .1 .1 .1 .1 .0 .now)
+gather-one κs a x y s t = same-pair
+
+pub right-pixels-one : OneAnswerIn 2 right-pixels-k.ps right-pixels-k.r right-pixels.Post (λ κs s. s .1 .1 .1 .1 .0 .now)
+right-pixels-one κs a x y s t = same-pair

@@ -22,14 +22,16 @@ pub fn clamp_qindex(q: i32) -> usize
     q as usize
 }
 
-fn dc_factor(q: i32) -> i16
+// The DC table's factor (14.1).
+pub fn dc_factor(q: i32) -> i16
     ensures { λ r. ⌜ r ≡ dcFactor q ⌝ }
 {
     let i = clamp_qindex(q);
     DC_QLOOKUP[i]
 }
 
-fn ac_factor(q: i32) -> i16
+// The AC table's factor (14.1).
+pub fn ac_factor(q: i32) -> i16
     ensures { λ r. ⌜ r ≡ acFactor q ⌝ }
 {
     let i = clamp_qindex(q);
@@ -37,7 +39,7 @@ fn ac_factor(q: i32) -> i16
 }
 
 // Whether the number is within signed 32 bits.
-fn signed32(z: i64) -> bool
+pub fn signed32(z: i64) -> bool
     ensures { λ r. ⌜ r ≡ signed32 z ⌝ }
 {
     if z < -2147483648 {
@@ -77,7 +79,7 @@ impl Y1DequantFactors {
 }
 
 // A coefficient by its factor, kept in 16 bits.
-fn dequant(x: i16, factor: i16) -> i16
+pub fn dequant(x: i16, factor: i16) -> i16
     ensures { λ r. ⌜ r ≡ dequant x factor ⌝ }
 {
     whole::narrow(whole::widen(x) * whole::widen(factor))

@@ -1,0 +1,2 @@
+-- The answer of `MbDequantFactors::from_base_and_deltas`.
+pub mod Factors

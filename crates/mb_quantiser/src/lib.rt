@@ -103,7 +103,7 @@ fn scale_block(coeffs: &mut [i16], k: usize, dc: i16, ac: i16)
 {
     let at = k * 16;
     coeffs[at] = quantiser::dequant(coeffs[at], dc);
-    for i in 1..16 {
-        coeffs[at + i] = quantiser::dequant(coeffs[at + i], ac);
+    for i in 0..15 {
+        coeffs[at + (1 + i)] = quantiser::dequant(coeffs[at + (1 + i)], ac);
     }
 }

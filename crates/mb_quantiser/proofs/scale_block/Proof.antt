@@ -1,90 +1,68 @@
+-- `mb_quantiser::scale_block` meets its contract. Assumes nothing.
+use mathlib.Core.Path.{_≡_, refl, sym, ap, _∙_}
+use Prim.Native.Nat.{ℕ, _+_, _*_, _-_, _≤_}
+use native.Mathlib.Omega.{arith}
+use borrow.Author.Needs.{needs}
+use lib.IntN.{ℤ, pos}
+use lib.ListN.{length, getD, set, length-set}
+use mir.Syntax.{w16}
+use mir.Val.{toZ}
+use mir.Facts.{toZ-ofZ}
+use Rattle.lists.specs.Lists.{turns}
+use Rattle.lists.proofs.Turns.{turns-step}
+use Rattle.whole.proofs.Held.{R16}
+use Rattle.mb_quantiser.specs.Turns.{coefficient, blockScaled}
+use Rattle.mb_quantiser.proofs.Blocks.{later, later-turn, block-done}
 use Rattle.mb_quantiser.proofs.scale_block.Statement.{statement}
 use Rattle.mb_quantiser.proofs.scale_block.Tie as tie
 use Rattle.mb_quantiser.proofs.scale_block.Reads as reads
 use Rattle.mb_quantiser.proofs.scale_block.Lts as lts
-use Rattle.quantiser.proofs.dequant.Reads as dequant-reads
 
 abbrev Inv-loop : tie.InvT-loop
-Inv-loop coeffs₀ k dc ac at i₀ coeffs i = ?
+Inv-loop coeffs₀ k dc ac at i₀ coeffs i =
+    (i ≤ 15) × (length coeffs ≡ length coeffs₀) × (coeffs ≡ turns i (later (toZ w16 dc) (toZ w16 ac) k) coeffs₀)
 
 abbrev μ-loop : tie.MeasureT-loop
-μ-loop coeffs₀ k dc ac at i₀ coeffs i = ?
+μ-loop coeffs₀ k dc ac at i₀ coeffs i = 15 - i
 
--- src/lib.rt:105:14
-mul-at : tie.Need-mul-at Inv-loop μ-loop
-mul-at c = ?
-
--- src/lib.rt:106:37
-mul-dequant : tie.Need-mul-dequant Inv-loop μ-loop
-mul-dequant c = ?
-
--- src/lib.rt:106:37
-slice-copy-out-dequant : tie.Need-slice-copy-out-dequant Inv-loop μ-loop
-slice-copy-out-dequant c = ?
-
--- src/lib.rt:106:18
-dequant-requires : tie.Need-dequant-requires Inv-loop μ-loop
-dequant-requires c κs = ?
-
--- src/lib.rt:106:5
-mul-t11 : tie.Need-mul-t11 Inv-loop μ-loop
-mul-t11 c = ?
-
--- src/lib.rt:106:5
-slice-set-from-coeffs : tie.Need-slice-set-from-coeffs Inv-loop μ-loop
-slice-set-from-coeffs c = ?
-
--- src/lib.rt:107:5
 loop-holds : tie.Need-loop-holds Inv-loop μ-loop
-loop-holds c = ?
+unfolding turns
+loop-holds c = (omega arith, refl, refl)
 
--- src/lib.rt:108:52
-add-dequant : tie.Need-add-dequant Inv-loop μ-loop
-add-dequant c = ?
+-- the block lies in what the loop has
+room : (c : tie.At-loop Inv-loop μ-loop) → c .before .before .before .args .k * 16 + 16 ≤ length (c .loop .coeffs)
+room c =
+    let s = c .before .before .before in
+    omega (arith, c .loop .inv .1, length-set (s .args .coeffs .now) (s .args .k * 16) (R16 (c .before .dequant .result)), s .pre)
 
--- src/lib.rt:108:45
-mul-dequant-2 : tie.Need-mul-dequant-2 Inv-loop μ-loop
-mul-dequant-2 c = ?
-
--- src/lib.rt:108:45
-slice-copy-out-dequant-2 : tie.Need-slice-copy-out-dequant-2 Inv-loop μ-loop
-slice-copy-out-dequant-2 c = ?
-
--- src/lib.rt:108:26
-dequant-requires-2 : tie.Need-dequant-requires-2 Inv-loop μ-loop
-dequant-requires-2 c κs = ?
-
--- src/lib.rt:108:16
-add-t19 : tie.Need-add-t19 Inv-loop μ-loop
-add-t19 c = ?
-
--- src/lib.rt:108:9
-mul-t20 : tie.Need-mul-t20 Inv-loop μ-loop
-mul-t20 c = ?
-
--- src/lib.rt:108:9
-slice-set-from-coeffs-2 : tie.Need-slice-set-from-coeffs-2 Inv-loop μ-loop
-slice-set-from-coeffs-2 c = ?
-
--- src/lib.rt:107:9
-add-i : tie.Need-add-i Inv-loop μ-loop
-add-i c = ?
-
--- src/lib.rt:107:5
-loop-less : tie.Need-loop-less Inv-loop μ-loop
-loop-less c = ?
-
--- src/lib.rt:107:5
 loop-again : tie.Need-loop-again Inv-loop μ-loop
-loop-again c = ?
+loop-again c =
+    let l = c .before .before .before in
+    let i = l .loop .i in
+    let a = l .before .before .before .args in
+    let dc = R16 (a .dc) in
+    let ac = R16 (a .ac) in (
+      omega arith,
+      length-set (l .loop .coeffs) (a .k * 16 + (1 + i)) (R16 (c .dequant2 .result)) ∙ l .loop .inv .1,
+      turns-step i (later dc ac (a .k)) _ (l .loop .coeffs) _ (l .loop .inv .2)
+          (later-turn dc ac (a .k) i (l .loop .coeffs) (c .dequant2 .result) (c .dequant2 .ok) (c .before .dequant-arg2 .given) (c .dequant2 .ensures)),
+    )
 
--- src/lib.rt:101:1
 same-length : tie.Need-same-length Inv-loop μ-loop
-same-length c = ?
+same-length c =
+    let s = c .before .before .before .before in
+    c .before .loop .inv .1 ∙ length-set (s .args .coeffs .now) (s .args .k * 16) (R16 (c .before .before .dequant .result))
 
--- src/lib.rt:101:1
 returns : tie.Need-returns Inv-loop μ-loop
-returns c = ?
+returns c =
+    let i = c .before .loop in
+    let d = c .before .before in
+    let s = d .before .before in
+    let a = s .args in
+    let full : i .i ≡ 15 = omega arith in
+    block-done (R16 (a .dc)) (R16 (a .ac)) (a .k) (a .coeffs .now) (i .coeffs) (d .dequant .result) (d .dequant .ok) (d .before .dequant-arg .given) (d .dequant .ensures)
+    (rw full at (i .inv .2))
+    ∙ rw (toZ-ofZ (s .fits .dc), toZ-ofZ (s .fits .ac))
 
 pub scale-block-spec : {M : Type 1} → statement M
 scale-block-spec =
@@ -92,22 +70,24 @@ scale-block-spec =
     (tie.spec
     Inv-loop
     μ-loop
-    mul-at
-    mul-dequant
-    slice-copy-out-dequant
-    dequant-requires
-    mul-t11
-    slice-set-from-coeffs
+    (λ c. search needs)
+    (λ c. search needs)
+    (λ c. search needs)
+    (λ c κs. tt)
+    (λ c. search needs)
+    (λ c. search needs)
     loop-holds
-    add-dequant
-    mul-dequant-2
-    slice-copy-out-dequant-2
-    dequant-requires-2
-    add-t19
-    mul-t20
-    slice-set-from-coeffs-2
-    add-i
-    loop-less
+    (λ c. search needs)
+    (λ c. search needs)
+    (λ c. search needs)
+    (λ c. omega (arith, room (c .before)))
+    (λ c κs. tt)
+    (λ c. search needs)
+    (λ c. search needs)
+    (λ c. search needs)
+    (λ c. omega (arith, room (c .before .before .before)))
+    (λ c. search needs)
+    (λ c. search needs)
     loop-again
     same-length
     returns)

@@ -1,50 +1,38 @@
+-- `mb_quantiser::store` meets its contract. Assumes nothing.
+use mathlib.Core.Path.{_≡_, _∙_}
 use borrow.Author.Needs.{needs}
+use lib.ListN.{length-set}
+use Rattle.whole.proofs.Held.{held16}
+use Rattle.mb_quantiser.specs.Answers.{factorList}
+use Rattle.mb_quantiser.proofs.Stored.{six}
 use Rattle.mb_quantiser.proofs.store.Statement.{statement}
 use Rattle.mb_quantiser.proofs.store.Tie as tie
-use Rattle.mb_quantiser.proofs.store.Reads as reads
-use Rattle.mb_quantiser.proofs.store.Lts as lts
 
--- src/lib.rt:72:5
-slice-set-from-y1-dc : tie.Need-slice-set-from-y1-dc
-slice-set-from-y1-dc c = search needs
-
--- src/lib.rt:73:5
-slice-set-from-y1-ac : tie.Need-slice-set-from-y1-ac
-slice-set-from-y1-ac c = search needs
-
--- src/lib.rt:74:5
-slice-set-from-y2-dc : tie.Need-slice-set-from-y2-dc
-slice-set-from-y2-dc c = search needs
-
--- src/lib.rt:75:5
-slice-set-from-y2-ac : tie.Need-slice-set-from-y2-ac
-slice-set-from-y2-ac c = search needs
-
--- src/lib.rt:76:5
-slice-set-from-uv-dc : tie.Need-slice-set-from-uv-dc
-slice-set-from-uv-dc c = ?
-
--- src/lib.rt:77:5
-slice-set-from-uv-ac : tie.Need-slice-set-from-uv-ac
-slice-set-from-uv-ac c = ?
-
--- src/lib.rt:62:1
-same-length : tie.Need-same-length
-same-length c = ?
-
--- src/lib.rt:62:1
 returns : tie.Need-returns
-returns c = ?
+unfolding factorList
+returns c =
+    let s = c .before .before .before .before .before .before in
+    let f = s .args .f in
+    let t = c .struct-told6 .given .1 in
+    six (s .args .out .now) _ _ _ _ _ _ (s .pre)
+    ∙ rw (
+      held16 (f .«y1_dc») (t .0 .1),
+      held16 (f .«y1_ac») (t .1 .0 .1),
+      held16 (f .«y2_dc») (t .1 .1 .0 .1),
+      held16 (f .«y2_ac») (t .1 .1 .1 .0 .1),
+      held16 (f .«uv_dc») (t .1 .1 .1 .1 .0 .1),
+      held16 (f .«uv_ac») (t .1 .1 .1 .1 .1 .0 .1),
+    )
 
 pub store-spec : {M : Type 1} → statement M
 store-spec =
     tie.close
     (tie.spec
-    slice-set-from-y1-dc
-    slice-set-from-y1-ac
-    slice-set-from-y2-dc
-    slice-set-from-y2-ac
-    slice-set-from-uv-dc
-    slice-set-from-uv-ac
-    same-length
+    (λ c. search needs)
+    (λ c. search needs)
+    (λ c. search needs)
+    (λ c. search needs)
+    (λ c. simp length-set (search needs))
+    (λ c. simp length-set (search needs))
+    (λ c. simp length-set (search needs))
     returns)

@@ -15,8 +15,6 @@ use Rattle.mb_quantiser.specs.Turns.{coefficient, blockScaled}
 use Rattle.mb_quantiser.proofs.Blocks.{later, later-turn, block-done}
 use Rattle.mb_quantiser.proofs.scale_block.Statement.{statement}
 use Rattle.mb_quantiser.proofs.scale_block.Tie as tie
-use Rattle.mb_quantiser.proofs.scale_block.Reads as reads
-use Rattle.mb_quantiser.proofs.scale_block.Lts as lts
 
 abbrev Inv-loop : tie.InvT-loop
 Inv-loop coeffs₀ k dc ac at i₀ coeffs i =

@@ -12,8 +12,6 @@ use Rattle.lists.proofs.Turns.{turns-step, turns-done}
 use Rattle.mb_quantiser.specs.Turns.{blockScaled, blocksScaled}
 use Rattle.mb_quantiser.proofs.scale_blocks.Statement.{statement}
 use Rattle.mb_quantiser.proofs.scale_blocks.Tie as tie
-use Rattle.mb_quantiser.proofs.scale_blocks.Reads as reads
-use Rattle.mb_quantiser.proofs.scale_blocks.Lts as lts
 
 abbrev Inv-loop : tie.InvT-loop
 Inv-loop coeffs₀ first count dc ac k₀ coeffs k =

@@ -1,5 +1,5 @@
 -- Each promise of `mb_quantiser` admits one answer only, and leaves one thing only in what was lent. Assumes nothing.
-use mathlib.Core.Path.{_≡_, ap}
+use mathlib.Core.Path.{ap}
 use mathlib.Core.List.{List}
 use Prim.Native.Nat.{ℕ}
 use lib.IntN.{ℤ}

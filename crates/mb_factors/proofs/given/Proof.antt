@@ -4,7 +4,7 @@ use lib.IntN.{ℤ, _+ℤ_}
 use mir.Syntax.{w32}
 use mir.Val.{SFits}
 use mir.Facts.{toZ-ofZ}
-use Rattle.whole.proofs.Held.{R16, R32, held16}
+use Rattle.whole.proofs.Held.{R32, held16}
 use Rattle.rfc6386.specs.Quantiser.{dcFactor, acFactor}
 use Rattle.rfc6386.specs.MbFactors.{y2DcFactor, y2AcFactor, uvDcFactor}
 use Rattle.mb_factors.proofs.Sums.{Sums, sums-fit}

@@ -1,5 +1,4 @@
 -- `mb_quantiser::dequantise_slices` meets its contract. Assumes nothing.
-use mathlib.Core.Path.{_≡_}
 use borrow.Author.Needs.{needs}
 use mir.Facts.{toZ-ofZ}
 use Rattle.mb_quantiser.proofs.Answers.{factors-refused, factors-stored}

@@ -1,5 +1,4 @@
 -- `mb_quantiser::scale_all` meets its contract. Assumes nothing.
-use mathlib.Core.Path.{_≡_}
 use borrow.Author.Needs.{needs}
 use Rattle.whole.proofs.Held.{held16}
 use Rattle.mb_quantiser.proofs.Blocks.{all-blocks}

@@ -1,17 +1,15 @@
 -- `mb_quantiser::scale_block` meets its contract. Assumes nothing.
-use mathlib.Core.Path.{_≡_, refl, sym, ap, _∙_}
-use Prim.Native.Nat.{ℕ, _+_, _*_, _-_, _≤_}
+use mathlib.Core.Path.{_≡_, refl, _∙_}
+use Prim.Native.Nat.{_+_, _*_, _-_, _≤_}
 use native.Mathlib.Omega.{arith}
 use borrow.Author.Needs.{needs}
-use lib.IntN.{ℤ, pos}
-use lib.ListN.{length, getD, set, length-set}
+use lib.ListN.{length, length-set}
 use mir.Syntax.{w16}
 use mir.Val.{toZ}
 use mir.Facts.{toZ-ofZ}
 use Rattle.lists.specs.Lists.{turns}
 use Rattle.lists.proofs.Turns.{turns-step}
 use Rattle.whole.proofs.Held.{R16}
-use Rattle.mb_quantiser.specs.Turns.{coefficient, blockScaled}
 use Rattle.mb_quantiser.proofs.Blocks.{later, later-turn, block-done}
 use Rattle.mb_quantiser.proofs.scale_block.Statement.{statement}
 use Rattle.mb_quantiser.proofs.scale_block.Tie as tie

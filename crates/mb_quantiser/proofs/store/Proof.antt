@@ -1,5 +1,5 @@
 -- `mb_quantiser::store` meets its contract. Assumes nothing.
-use mathlib.Core.Path.{_≡_, _∙_}
+use mathlib.Core.Path.{_∙_}
 use borrow.Author.Needs.{needs}
 use lib.ListN.{length-set}
 use Rattle.whole.proofs.Held.{held16}

@@ -1,9 +1,9 @@
 -- Laws for the functions of `mb_factors`.
 --     Sums          the five sums: what the tests say of them, and that each then fits
 --     Answers       the answer, part by part: six factors, or a refusal
---     Bitstream     an index and deltas of a bitstream are never refused
+--     Unrefused     an index and deltas of a bitstream are never refused
 --     OneAnswer     each public promise admits one answer only
 pub mod Sums
 pub mod Answers
-pub mod Bitstream
+pub mod Unrefused
 pub mod OneAnswer

@@ -14,7 +14,7 @@ use Rattle.macroblock.specs.Reply.{wrongLength, indexSum}
 use Rattle.rfc6386.proofs.MbFactors.{blocks-zero}
 use Rattle.mb_factors.specs.declared.MbDequantFactors.{MbDequantFactors}
 use Rattle.mb_factors.specs.Factors.{sumsFit, factorsGiven, noFactors}
-use Rattle.mb_factors.proofs.Bitstream.{bitstream-sums}
+use Rattle.mb_factors.proofs.Unrefused.{bitstream-sums}
 use Rattle.mb_quantiser.specs.Answers.{dcOf, acOf, mbDequantised, dequantiseAnswer}
 
 zero-either : (b c : Bool) (f g h : MbDequantFactors) (m l : List ℤ) (j : ℕ) → getD m j (pos 0) ≡ pos 0 → getD l j (pos 0) ≡ pos 0

@@ -101,18 +101,7 @@ pub fn dequantise(indices: QuantIndices, coeffs: &mut [i16; 400]) -> Result<MbDe
     let (at, len) = (coeffs.as_mut_ptr(), coeffs.len());
     // SAFETY: the pointers and the lengths are those of two arrays, each lent alone.
     answer(unsafe {
-        raw::zopredil_dequantise(
-            yac_qi,
-            ydc,
-            y2dc,
-            y2ac,
-            uvdc,
-            uvac,
-            at,
-            len,
-            factors.as_mut_ptr(),
-            factors.len(),
-        )
+        raw::zopredil_dequantise(yac_qi, ydc, y2dc, y2ac, uvdc, uvac, at, len, factors.as_mut_ptr(), factors.len())
     })?;
     let [y1_dc, y1_ac, y2_dc, y2_ac, uv_dc, uv_ac] = factors;
     Ok(MbDequantFactors { y1_dc, y1_ac, y2_dc, y2_ac, uv_dc, uv_ac })

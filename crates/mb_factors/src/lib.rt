@@ -8,10 +8,11 @@
 // Each sum of the base index and a delta is held within 0 and 127 when its table is read, and not before.
 ghost use mathlib.Core.Path.{_≡_};
 ghost use mathlib.Core.Bool.{true};
-ghost use Prim.Native.Nat.{_*_, _/_, _≤_};
-ghost use lib.IntN.{_+ℤ_};
-ghost use Rattle.rfc6386.specs.MbFactors.{dcEntry, acEntry, y2DcFactor, y2AcFactor, uvDcFactor};
+ghost use Prim.Native.Nat.{_*_, _/_, _≤_, min, max};
+ghost use lib.IntN.{pos, _+ℤ_};
+ghost use Rattle.rfc6386.specs.MbFactors.{dcEntry, acEntry};
 ghost use Rattle.quantiser.specs.Factors.{signed32};
+ghost use Rattle.mb_factors.specs.Entries.{entries};
 ghost use Rattle.mb_factors.specs.Factors.{sumsFit, factorsGiven, noFactors, mbFactors};
 
 // The six factors, beside a reply: 5 where a sum of indices is outside signed 32 bits, with all six 0.
@@ -89,40 +90,76 @@ fn given(yac_qi: i32, ydc: i32, y2dc: i32, y2ac: i32, uvdc: i32, uvac: i32) -> M
     requires { ⌜ sumsFit «yac_qi» ydc y2dc y2ac uvdc uvac ≡ true ⌝ }
     ensures { λ r. ⌜ r ≡ factorsGiven «yac_qi» ydc y2dc y2ac uvdc uvac ⌝ }
 {
+    let dc = dc_entries(yac_qi + ydc, yac_qi + y2dc, yac_qi + uvdc);
+    let ac = ac_entries(yac_qi, yac_qi + y2ac, yac_qi + uvac);
     MbDequantFactors {
         reply: macroblock::reply::DONE,
-        y1_dc: quantiser::dc_factor(yac_qi + ydc),
-        y1_ac: quantiser::ac_factor(yac_qi),
-        y2_dc: y2_dc_factor(yac_qi + y2dc),
-        y2_ac: y2_ac_factor(yac_qi + y2ac),
-        uv_dc: uv_dc_factor(yac_qi + uvdc),
-        uv_ac: quantiser::ac_factor(yac_qi + uvac),
+        y1_dc: plain(dc.first),
+        y1_ac: plain(ac.first),
+        y2_dc: twice(dc.second),
+        y2_ac: at_least_eight(ac.second),
+        uv_dc: capped(dc.third),
+        uv_ac: plain(ac.third),
     }
 }
 
-// The tables at an index, as numbers that are never negative.
-fn dc_entry(q: i32) -> u32
-    ensures { λ r. ⌜ r ≡ dcEntry q ⌝ }
-{
-    quantiser::dc_factor(q) as u32
+// Three entries of a table, as numbers that are never negative. A table is read from one copy of it for all three.
+struct Entries {
+    first: u32,
+    second: u32,
+    third: u32,
 }
 
-fn ac_entry(q: i32) -> u32
-    ensures { λ r. ⌜ r ≡ acEntry q ⌝ }
+fn dc_entries(i: i32, j: i32, k: i32) -> Entries
+    ensures { λ r. ⌜ r ≡ entries dcEntry i j k ⌝ }
 {
-    quantiser::ac_factor(q) as u32
+    let table = quantiser::DC_QLOOKUP;
+    let a = quantiser::clamp_qindex(i);
+    let b = quantiser::clamp_qindex(j);
+    let c = quantiser::clamp_qindex(k);
+    Entries {
+        first: table[a] as u32,
+        second: table[b] as u32,
+        third: table[c] as u32,
+    }
 }
 
-fn y2_dc_factor(q: i32) -> i16
-    ensures { λ r. ⌜ r ≡ y2DcFactor q ⌝ }
+fn ac_entries(i: i32, j: i32, k: i32) -> Entries
+    ensures { λ r. ⌜ r ≡ entries acEntry i j k ⌝ }
 {
-    (dc_entry(q) * 2) as i16
+    let table = quantiser::AC_QLOOKUP;
+    let a = quantiser::clamp_qindex(i);
+    let b = quantiser::clamp_qindex(j);
+    let c = quantiser::clamp_qindex(k);
+    Entries {
+        first: table[a] as u32,
+        second: table[b] as u32,
+        third: table[c] as u32,
+    }
 }
 
-fn y2_ac_factor(q: i32) -> i16
-    ensures { λ r. ⌜ r ≡ y2AcFactor q ⌝ }
+// Y1, and chroma AC.
+fn plain(entry: u32) -> i16
+    requires { ⌜ entry ≤ 284 ⌝ }
+    ensures { λ r. ⌜ r ≡ pos entry ⌝ }
 {
-    let f = scaled(ac_entry(q));
+    entry as i16
+}
+
+// Y2 DC.
+fn twice(entry: u32) -> i16
+    requires { ⌜ entry ≤ 157 ⌝ }
+    ensures { λ r. ⌜ r ≡ pos (entry * 2) ⌝ }
+{
+    (entry * 2) as i16
+}
+
+// Y2 AC.
+fn at_least_eight(entry: u32) -> i16
+    requires { ⌜ entry ≤ 284 ⌝ }
+    ensures { λ r. ⌜ r ≡ pos (max (entry * 155 / 100) 8) ⌝ }
+{
+    let f = scaled(entry);
     if f < 8 {
         return 8;
     }
@@ -137,12 +174,12 @@ fn scaled(entry: u32) -> u32
     entry * 155 / 100
 }
 
-fn uv_dc_factor(q: i32) -> i16
-    ensures { λ r. ⌜ r ≡ uvDcFactor q ⌝ }
+// Chroma DC.
+fn capped(entry: u32) -> i16
+    ensures { λ r. ⌜ r ≡ pos (min entry 132) ⌝ }
 {
-    let f = dc_entry(q);
-    if f > 132 {
+    if entry > 132 {
         return 132;
     }
-    f as i16
+    entry as i16
 }

@@ -6,10 +6,6 @@ use Rattle.quantiser.proofs.Y1DequantFactors.from_indices.Reads as from
 use Rattle.quantiser.proofs.Y1DequantFactors.from_indices.Kinds as from-indices-k
 use Rattle.quantiser.proofs.dequant_block.Reads as dequant-block
 use Rattle.quantiser.proofs.dequant_block.Kinds as dequant-block-k
-use Rattle.quantiser.proofs.dc_factor.Reads as dc-factor
-use Rattle.quantiser.proofs.dc_factor.Kinds as dc-factor-k
-use Rattle.quantiser.proofs.ac_factor.Reads as ac-factor
-use Rattle.quantiser.proofs.ac_factor.Kinds as ac-factor-k
 use Rattle.quantiser.proofs.signed32.Reads as signed32
 use Rattle.quantiser.proofs.signed32.Kinds as signed32-k
 use Rattle.quantiser.proofs.dequant.Reads as dequant
@@ -23,12 +19,6 @@ from-indices-one κs a x y s t = same
 
 pub dequant-block-one : OneAnswer 0 dequant-block-k.ps dequant-block-k.r dequant-block.Post
 dequant-block-one κs a x y s t = same
-
-pub dc-factor-one : OneAnswer 0 dc-factor-k.ps dc-factor-k.r dc-factor.Post
-dc-factor-one κs a x y s t = same
-
-pub ac-factor-one : OneAnswer 0 ac-factor-k.ps ac-factor-k.r ac-factor.Post
-ac-factor-one κs a x y s t = same
 
 pub signed32-one : OneAnswer 0 signed32-k.ps signed32-k.r signed32.Post
 signed32-one κs a x y s t = same

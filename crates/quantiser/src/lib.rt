@@ -22,16 +22,14 @@ pub fn clamp_qindex(q: i32) -> usize
     q as usize
 }
 
-// The DC table's factor (14.1).
-pub fn dc_factor(q: i32) -> i16
+fn dc_factor(q: i32) -> i16
     ensures { λ r. ⌜ r ≡ dcFactor q ⌝ }
 {
     let i = clamp_qindex(q);
     DC_QLOOKUP[i]
 }
 
-// The AC table's factor (14.1).
-pub fn ac_factor(q: i32) -> i16
+fn ac_factor(q: i32) -> i16
     ensures { λ r. ⌜ r ≡ acFactor q ⌝ }
 {
     let i = clamp_qindex(q);

@@ -50,24 +50,49 @@ pub record Ranges (f : ℤ → ℤ) (least most : ℕ) : Type 0 where
 -- Y1 DC
 pub dc-ranges : Ranges dcFactor 4 157
 unfolding dcFactor dcLookup clampIndex clampTo
-dc-ranges = record { every = λ q. record { value = dcEntry q; is = dc-factor-entry q; least-≤ = dc-entry-within q .0; ≤-most = dc-entry-within q .1 }; at-0 = refl; at-127 = refl }
+dc-ranges =
+    record {
+      every = λ q. record { value = dcEntry q; is = dc-factor-entry q; least-≤ = dc-entry-within q .0; ≤-most = dc-entry-within q .1 };
+      at-0 = refl;
+      at-127 = refl;
+    }
 
 -- Y1 AC and chroma AC
 pub ac-ranges : Ranges acFactor 4 284
 unfolding acFactor acLookup clampIndex clampTo
-ac-ranges = record { every = λ q. record { value = acEntry q; is = ac-factor-entry q; least-≤ = ac-entry-within q .0; ≤-most = ac-entry-within q .1 }; at-0 = refl; at-127 = refl }
+ac-ranges =
+    record {
+      every = λ q. record { value = acEntry q; is = ac-factor-entry q; least-≤ = ac-entry-within q .0; ≤-most = ac-entry-within q .1 };
+      at-0 = refl;
+      at-127 = refl;
+    }
 
 pub y2-dc-ranges : Ranges y2DcFactor 8 314
 unfolding y2DcFactor dcEntry dcLookup clampIndex clampTo
-y2-dc-ranges = record { every = λ q. record { value = dcEntry q * 2; is = refl; least-≤ = omega (arith, dc-entry-within q); ≤-most = omega (arith, dc-entry-within q) }; at-0 = refl; at-127 = refl }
+y2-dc-ranges =
+    record {
+      every = λ q. record { value = dcEntry q * 2; is = refl; least-≤ = omega (arith, dc-entry-within q); ≤-most = omega (arith, dc-entry-within q) };
+      at-0 = refl;
+      at-127 = refl;
+    }
 
 pub y2-ac-ranges : Ranges y2AcFactor 8 440
 unfolding y2AcFactor acEntry acLookup clampIndex clampTo
-y2-ac-ranges = record { every = λ q. record { value = max (acEntry q * 155 / 100) 8; is = refl; least-≤ = omega (arith, ac-entry-within q); ≤-most = omega (arith, ac-entry-within q) }; at-0 = refl; at-127 = refl }
+y2-ac-ranges =
+    record {
+      every = λ q. record { value = max (acEntry q * 155 / 100) 8; is = refl; least-≤ = omega (arith, ac-entry-within q); ≤-most = omega (arith, ac-entry-within q) };
+      at-0 = refl;
+      at-127 = refl;
+    }
 
 pub uv-dc-ranges : Ranges uvDcFactor 4 132
 unfolding uvDcFactor dcEntry dcLookup clampIndex clampTo
-uv-dc-ranges = record { every = λ q. record { value = min (dcEntry q) 132; is = refl; least-≤ = omega (arith, dc-entry-within q); ≤-most = omega (arith, dc-entry-within q) }; at-0 = refl; at-127 = refl }
+uv-dc-ranges =
+    record {
+      every = λ q. record { value = min (dcEntry q) 132; is = refl; least-≤ = omega (arith, dc-entry-within q); ≤-most = omega (arith, dc-entry-within q) };
+      at-0 = refl;
+      at-127 = refl;
+    }
 
 -- ---- n blocks of 16
 module _ (n : ℕ) (dc ac : ℕ → ℤ) (l : List ℤ) where

@@ -35,7 +35,11 @@ unfolding sumsFit
 returns-3 c =
     let e = c .before .before in
     let d = e .before .before in
-    rw (first (d .before) ∙ not-false _ (d .if1 .left), second (e .before) ∙ not-false _ (e .if2 .left), third (c .before) ∙ not-true _ (c .if3 .taken))
+    rw (
+      first (d .before) ∙ not-false _ (d .if1 .left),
+      second (e .before) ∙ not-false _ (e .if2 .left),
+      third (c .before) ∙ not-true _ (c .if3 .taken),
+    )
 
 returns-4 : tie.Need-returns-4
 unfolding sumsFit
@@ -43,7 +47,12 @@ returns-4 c =
     let f = c .before .before in
     let e = f .before .before in
     let d = e .before .before in
-    rw (first (d .before) ∙ not-false _ (d .if1 .left), second (e .before) ∙ not-false _ (e .if2 .left), third (f .before) ∙ not-false _ (f .if3 .left), fourth (c .before) ∙ not-true _ (c .if4 .taken))
+    rw (
+      first (d .before) ∙ not-false _ (d .if1 .left),
+      second (e .before) ∙ not-false _ (e .if2 .left),
+      third (f .before) ∙ not-false _ (f .if3 .left),
+      fourth (c .before) ∙ not-true _ (c .if4 .taken),
+    )
 
 returns-5 : tie.Need-returns-5
 unfolding sumsFit
@@ -53,7 +62,12 @@ returns-5 c =
     let e = f .before .before in
     let d = e .before .before in
     let s = d .before .before in
-    rw (first (d .before) ∙ not-false _ (d .if1 .left), second (e .before) ∙ not-false _ (e .if2 .left), third (f .before) ∙ not-false _ (f .if3 .left), fourth (g .before) ∙ not-false _ (g .if4 .left))
+    rw (
+      first (d .before) ∙ not-false _ (d .if1 .left),
+      second (e .before) ∙ not-false _ (e .if2 .left),
+      third (f .before) ∙ not-false _ (f .if3 .left),
+      fourth (g .before) ∙ not-false _ (g .if4 .left),
+    )
     (sym (tested (s .fits .q) (s .fits .uvac) (c .sum-fits5 .ensures)))
 
 pub sums-fit-spec : {M : Type 1} → statement M

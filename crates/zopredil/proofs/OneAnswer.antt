@@ -1,10 +1,16 @@
 -- Each promise of the C interface admits one answer only, and leaves one thing only in what was lent. Assumes nothing.
-use Rattle.lists.proofs.Answer.{OneAnswerIn}
+use mathlib.Core.Path.{ap}
+use mathlib.Core.List.{List}
+use Prim.Native.Nat.{ℕ}
+use lib.IntN.{ℤ}
+use Rattle.lists.proofs.Answer.{OneAnswerIn, same}
 use Rattle.slices.proofs.Pairs.{same-pair}
 use Rattle.zopredil.proofs.zopredil_y1_factors.Reads as y1-factors
 use Rattle.zopredil.proofs.zopredil_y1_factors.Kinds as y1-factors-k
 use Rattle.zopredil.proofs.zopredil_dequant_block.Reads as dequant-block
 use Rattle.zopredil.proofs.zopredil_dequant_block.Kinds as dequant-block-k
+use Rattle.zopredil.proofs.zopredil_dequantise.Reads as dequantise
+use Rattle.zopredil.proofs.zopredil_dequantise.Kinds as dequantise-k
 use Rattle.zopredil.proofs.zopredil_inverse_wht.Reads as inverse-wht
 use Rattle.zopredil.proofs.zopredil_inverse_wht.Kinds as inverse-wht-k
 use Rattle.zopredil.proofs.zopredil_inverse_wht_dc_only.Reads as inverse-wht-dc-only
@@ -66,3 +72,9 @@ gather-one κs a x y s t = same-pair
 
 pub right-pixels-one : OneAnswerIn 2 right-pixels-k.ps right-pixels-k.r right-pixels.Post (λ κs s. s .1 .1 .1 .1 .0 .now)
 right-pixels-one κs a x y s t = same-pair
+
+pub dequantise-one : OneAnswerIn 2 dequantise-k.ps dequantise-k.r dequantise.Post
+    {A = List ℤ × List ℤ} (λ κs s. (s .1 .1 .1 .1 .1 .1 .0 .now, s .1 .1 .1 .1 .1 .1 .1 .0 .now))
+dequantise-one κs a x y s t p q =
+    let e = same p q in
+    (ap (λ (w : ℕ × List ℤ × List ℤ). w .0) e, ap (λ (w : ℕ × List ℤ × List ℤ). (w .1, w .2)) e)

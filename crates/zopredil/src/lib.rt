@@ -7,6 +7,7 @@ ghost use Rattle.predict_slices.specs.Answers.{lumaAnswer, chromaAnswer, subBlo
 ghost use Rattle.macroblock_slices.specs.Answers.{mbAnswer};
 ghost use Rattle.gather_bytes.specs.Answer.{gatherAnswer};
 ghost use Rattle.right_pixels.specs.Answers.{rightAnswer};
+ghost use Rattle.mb_quantiser.specs.Answers.{slicesAnswer};
 
 #[no_mangle]
 pub extern "C" fn zopredil_y1_factors(yac_qi: i32, ydc_delta: i32, out: &mut [i16]) -> u32
@@ -20,6 +21,23 @@ pub extern "C" fn zopredil_dequant_block(coeffs: &mut [i16], dc: i16, ac: i16) -
     ensures { λ r. ⌜ (r beside now (coeffs .exit)) ≡ dequantAnswer (now (coeffs .entry)) dc ac ⌝ }
 {
     transform_slices::dequant_block(coeffs, dc, ac)
+}
+
+#[no_mangle]
+pub extern "C" fn zopredil_dequantise(
+    yac_qi: i32,
+    ydc: i32,
+    y2dc: i32,
+    y2ac: i32,
+    uvdc: i32,
+    uvac: i32,
+    coeffs: &mut [i16],
+    factors: &mut [i16],
+) -> u32
+    ensures { λ r. ⌜ (r, now (coeffs .exit), now (factors .exit))
+        ≡ slicesAnswer «yac_qi» ydc y2dc y2ac uvdc uvac (now (coeffs .entry)) (now (factors .entry)) ⌝ }
+{
+    mb_quantiser::dequantise_slices(yac_qi, ydc, y2dc, y2ac, uvdc, uvac, coeffs, factors)
 }
 
 #[no_mangle]

@@ -13,7 +13,7 @@
  *     3  luma mode B where a 16x16 mode is wanted
  *     4  no sub-block modes where mode B wants them
  *     5  a sum of quantiser indices is outside signed 32 bits
- *     6  a sub-block's window passes the end of the B work buffer (no call answers with it)
+ *     6  not used: no call answers with it
  *     7  the picture's size or the macroblock's place is outside its limits
  *     8  a byte is no mode's number, or a skip or mark byte is neither 0 nor 1
  *

@@ -2,7 +2,7 @@
 
 use std::{error, fmt};
 
-/// Why a call was refused. The numbers are those of `include/zopredil.h`; 0, done, is no error.
+/// Why a call was refused. The numbers are those of `include/zopredil.h`; 0, done, is no error, and 6 is not used.
 #[derive(Debug, Clone, Copy, PartialEq, Eq, Hash)]
 #[repr(u32)]
 pub enum Reply {
@@ -16,8 +16,6 @@ pub enum Reply {
     MissingSubblockModes = 4,
     /// A sum of quantiser indices is outside signed 32 bits.
     IndexSum = 5,
-    /// A sub-block's window passes the end of the B work buffer.
-    PastBuffer = 6,
     /// The picture's size or the macroblock's place is outside its limits.
     OutsidePicture = 7,
     /// A byte is no mode's number, or a skip or mark byte is neither 0 nor 1.
@@ -25,13 +23,12 @@ pub enum Reply {
 }
 
 impl Reply {
-    const ALL: [Reply; 8] = [
+    const ALL: [Reply; 7] = [
         Reply::WrongLength,
         Reply::OutsidePlane,
         Reply::BPredNotSupported,
         Reply::MissingSubblockModes,
         Reply::IndexSum,
-        Reply::PastBuffer,
         Reply::OutsidePicture,
         Reply::UnknownByte,
     ];
@@ -45,13 +42,14 @@ impl Reply {
         self as u32
     }
 
-    /// The reply of a number: none for 0, which is no refusal, and for numbers above 8.
+    /// The reply of a number: none for 0, which is no refusal, for 6, which is not used, and for numbers above 8.
     ///
     /// ```
     /// use zopredil::Reply;
     ///
     /// assert_eq!(Reply::from_number(2), Some(Reply::OutsidePlane));
     /// assert_eq!(Reply::from_number(0), None);
+    /// assert_eq!(Reply::from_number(6), None);
     /// ```
     pub fn from_number(number: u32) -> Option<Reply> {
         Reply::ALL.into_iter().find(|reply| reply.number() == number)
@@ -66,7 +64,6 @@ impl fmt::Display for Reply {
             Reply::BPredNotSupported => "luma mode B where a 16x16 mode is wanted",
             Reply::MissingSubblockModes => "no sub-block modes where mode B wants them",
             Reply::IndexSum => "a sum of quantiser indices is outside signed 32 bits",
-            Reply::PastBuffer => "a sub-block's window passes the end of the work buffer",
             Reply::OutsidePicture => "the picture's size or the macroblock's place is outside its limits",
             Reply::UnknownByte => "a byte is no mode's number, or a skip or mark byte is neither 0 nor 1",
         })

@@ -1,4 +1,4 @@
--- The numbers of the replies.
+-- The numbers of the replies; 6 is not used.
 use Prim.Native.Nat.{ℕ}
 
 -- the result
@@ -24,10 +24,6 @@ noSubModes = 4
 -- a sum of quantiser indices is outside signed 32 bits
 abbrev pub indexSum : ℕ
 indexSum = 5
-
--- a sub-block's window passes the end of the B walker's work buffer
-abbrev pub pastBuffer : ℕ
-pastBuffer = 6
 
 -- the picture's size or the macroblock's place is outside its limits
 abbrev pub outsidePicture : ℕ

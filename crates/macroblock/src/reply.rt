@@ -1,4 +1,4 @@
-// The numbers of the replies. specs/Reply.antt has the same numbers under the same names.
+// The numbers of the replies; 6 is not used. specs/Reply.antt has the same numbers under the same names.
 
 // Done: the result.
 pub const DONE: u32 = 0;
@@ -17,9 +17,6 @@ pub const NO_SUB_MODES: u32 = 4;
 
 // A sum of quantiser indices is outside signed 32 bits.
 pub const INDEX_SUM: u32 = 5;
-
-// A sub-block's window passes the end of the B walker's work buffer.
-pub const PAST_BUFFER: u32 = 6;
 
 // The picture's size or the macroblock's place is outside its limits.
 pub const OUTSIDE_PICTURE: u32 = 7;

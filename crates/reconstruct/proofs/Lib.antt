@@ -1,5 +1,5 @@
 -- Theorems about what the two walkers answer.
---     Replies      which reply is given when, and what an accepted macroblock is; reply 6
+--     Replies      which reply is given when, and what an accepted macroblock is; 6 is never given
 --     Unread       what changes no answer: bytes of an absent edge, unmarked sub-block modes, coefficients of a skipped macroblock, a Y block's own DC
 --     Skipped      a skipped macroblock is its prediction
 --     Demand3      demand 3 of every pixel of an accepted macroblock

@@ -6,7 +6,7 @@ use lib.Dec.{eqb}
 use lib.IntN.{ℤ}
 use lib.ListN.{length, replicate}
 use Rattle.lists.specs.Lists.{pick}
-use Rattle.macroblock.specs.Reply.{done, wrongLength, bPred, noSubModes, pastBuffer}
+use Rattle.macroblock.specs.Reply.{done, wrongLength, bPred, noSubModes}
 use Rattle.macroblock.specs.declared.modes.IntraYMode.{IntraYMode}
 use Rattle.macroblock.specs.declared.modes.IntraUvMode.{IntraUvMode}
 use Rattle.macroblock.specs.declared.modes.IntraBmode.{IntraBmode}
@@ -14,7 +14,6 @@ use Rattle.macroblock.specs.declared.modes.MbModes.{MbModes}
 use Rattle.macroblock.specs.declared.neighbors.MbNeighbors.{MbNeighbors}
 use Rattle.rfc6386.specs.Edges.{isB}
 use Rattle.rfc6386.specs.Walk.{yWhole, yParts, uPlane, vPlane}
-use Rattle.sub_blocks.specs.Reach.{passes}
 use Rattle.reconstruct.specs.declared.ReconstructedMb.{ReconstructedMb}
 
 -- the number, and zero pixels
@@ -36,7 +35,7 @@ nonB m n coeffs =
     pick (isB (m .y)) (refusal bPred)
     (pick (eqb (length coeffs) 400) (wholeOf (m .y) (m .uv) (m .skip) n coeffs) (refusal wrongLength))
 
--- ---- luma mode B: 384 coefficients, U's from 256 on and V's from 320 on. The work buffer has 357 bytes
+-- ---- luma mode B: 384 coefficients, U's from 256 on and V's from 320 on
 unfoldable pub partsOf : List IntraBmode → IntraUvMode → Bool → MbNeighbors → List ℤ → ReconstructedMb
 partsOf modes uv skip n coeffs =
     record {
@@ -49,7 +48,5 @@ partsOf modes uv skip n coeffs =
 unfoldable pub walkB : List IntraBmode → Bool → MbModes → MbNeighbors → List ℤ → ReconstructedMb
 walkB modes there m n coeffs =
     pick there
-    (pick (eqb (length coeffs) 384)
-    (pick (passes 357) (refusal pastBuffer) (partsOf modes (m .uv) (m .skip) n coeffs))
-    (refusal wrongLength))
+    (pick (eqb (length coeffs) 384) (partsOf modes (m .uv) (m .skip) n coeffs) (refusal wrongLength))
     (refusal noSubModes)

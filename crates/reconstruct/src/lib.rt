@@ -112,7 +112,7 @@ fn parts(
 
 // A macroblock in luma mode B (12.3), whatever luma mode its record names. It takes 384 coefficients, without Y2, and the
 // modes of its sixteen sub-blocks, with a mark whether they are there. Refused, in this order: no sub-block modes (reply 4),
-// another number of coefficients (1), skipped or not, a sub-block's window that passes the end of the work buffer (6).
+// another number of coefficients (1), skipped or not.
 pub fn decode_keyframe_mb_bpred(
     modes: MbModes,
     sub_modes: [IntraBmode; 16],
@@ -129,9 +129,6 @@ pub fn decode_keyframe_mb_bpred(
             }
             if coeffs.len() != 384 {
                 return refused(reply::WRONG_LENGTH);
-            }
-            if sub_blocks::window_passes(work_buffer::LENGTH) {
-                return refused(reply::PAST_BUFFER);
             }
             parts(sub_modes, uv, skip, neighbors, coeffs)
         }

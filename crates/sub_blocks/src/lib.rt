@@ -8,4 +8,3 @@ mod walk;
 mod window;
 
 pub use walk::luma_parts;
-pub use window::window_passes;

@@ -9,7 +9,6 @@ ghost use mathlib.Core.Path.{_≡_};
 ghost use Prim.Native.Nat.{_<_, _≤_};
 ghost use Rattle.rfc6386.specs.Walk.{cornerOf, aboveIn, leftIn, topLeftIn};
 ghost use Rattle.rfc6386.specs.Subblock.{predictB};
-ghost use Rattle.sub_blocks.specs.Reach.{orPasses, passes};
 use macroblock::IntraBmode;
 use macroblock::MbNeighbors;
 use work_buffer::LENGTH;
@@ -19,28 +18,6 @@ pub(crate) fn corner_of(k: usize) -> usize
     ensures { λ r. ⌜ r ≡ cornerOf k ⌝ }
 {
     MbNeighbors::STRIDE + 1 + 4 * MbNeighbors::STRIDE * (k / 4) + 4 * (k % 4)
-}
-
-fn or_passes(passed: bool, length: usize, k: usize) -> bool
-    requires { ⌜ k < 16 ⌝ }
-    ensures { λ r. ⌜ r ≡ orPasses length k passed ⌝ }
-{
-    if length < corner_of(k) + 3 * MbNeighbors::STRIDE + 4 {
-        true
-    } else {
-        passed
-    }
-}
-
-// Whether the window of some sub-block passes the end of a buffer of so many bytes.
-pub fn window_passes(length: usize) -> bool
-    ensures { λ r. ⌜ r ≡ passes length ⌝ }
-{
-    let mut passed = false;
-    for k in 0..16 {
-        passed = or_passes(passed, length, k);
-    }
-    passed
 }
 
 fn above_in(b: &[u8; LENGTH], at: usize) -> [u8; 8]

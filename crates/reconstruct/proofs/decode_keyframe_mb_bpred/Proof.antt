@@ -1,5 +1,4 @@
--- `reconstruct::decode_keyframe_mb_bpred` meets its contract: by its three tests. Assumes nothing.
-use mathlib.Core.Path.{sym, _∙_}
+-- `reconstruct::decode_keyframe_mb_bpred` meets its contract: by its two tests. Assumes nothing.
 use borrow.Author.Tests.{eq-eqb, ne-eqb, not-true, not-false}
 use Rattle.reconstruct.specs.Answers.{walkB}
 use borrow.Author.Needs.{needs}
@@ -16,11 +15,7 @@ returns-2 c = rw (not-false (c .before .before .before .args .sub-modes-there) (
 
 returns-3 : tie.Need-returns-3
 unfolding walkB
-returns-3 c = rw (not-false (c .before .before .before .before .before .args .sub-modes-there) (c .before .before .before .before .if1 .left), eq-eqb _ _ (c .before .before .before .if2 .left), sym (c .before .before .window-passes .ensures) ∙ c .before .if3 .taken) (c .refused3 .ensures)
-
-returns-4 : tie.Need-returns-4
-unfolding walkB
-returns-4 c = rw (not-false (c .before .before .before .before .before .args .sub-modes-there) (c .before .before .before .before .if1 .left), eq-eqb _ _ (c .before .before .before .if2 .left), sym (c .before .before .window-passes .ensures) ∙ c .before .if3 .left) (c .parts .ensures)
+returns-3 c = rw (not-false (c .before .before .before .args .sub-modes-there) (c .before .before .if1 .left), eq-eqb _ _ (c .before .if2 .left)) (c .parts .ensures)
 
 pub decode-keyframe-mb-bpred-spec : {M : Type 1} → statement M
 decode-keyframe-mb-bpred-spec =
@@ -31,7 +26,4 @@ decode-keyframe-mb-bpred-spec =
     (λ c κs. search needs)
     returns-2
     (λ c κs. search needs)
-    (λ c κs. search needs)
-    returns-3
-    (λ c κs. search needs)
-    returns-4)
+    returns-3)

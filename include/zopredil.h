@@ -1,9 +1,9 @@
 /* zopredil.h: the picture code of VP8 key frames (RFC 6386, sections 12 and 14) as a C library.
  *
- * Twelve functions over numbers and slices. A slice is a pointer and a length (size_t), counted in elements and not in
- * bytes. The pointer of a slice of length 0 may be NULL. A slice that is written must not overlap another slice of the
- * same call. Nothing is kept between calls, nothing is allocated, and no function asks anything of its arguments but
- * that each pointer has as many elements behind it as its length says: a wrong value is refused by a number.
+ * Thirteen functions over numbers and slices. A slice is a pointer and a length (size_t), counted in elements and not
+ * in bytes. The pointer of a slice of length 0 may be NULL. A slice that is written must not overlap another slice of
+ * the same call. Nothing is kept between calls, nothing is allocated, and no function asks anything of its arguments
+ * but that each pointer has as many elements behind it as its length says: a wrong value is refused by a number.
  *
  * Every function answers with a reply number. Where several hold, the first of its own list is given:
  *
@@ -122,12 +122,22 @@ uint32_t zopredil_macroblock(const uint8_t *modes, size_t modes_len, const uint8
 
 /* Gathers the neighbour record of the macroblock in column col and row row, both counted from 0, of a picture of
  * finished planes (12.2 and 12.3) that is cols macroblocks wide and rows high. Each side is 1 to 1,024. y has exactly
- * 256, u and v 64 bytes a macroblock, rows unpadded. An edge outside the picture is absent, its bytes 0; the top-left
- * pixel is absent in the first row and in the first column, above-right in the first row and in the last column. record
- * has 81 bytes. Replies: 1 for record, nothing written; 7; 1 for a plane; after 7 and 1 for a plane the record is
- * zeros: every edge absent. */
+ * 256, u and v 64 bytes a macroblock, rows unpadded. An edge outside the picture is absent, its bytes 0. But below the
+ * first row two edges outside are there: the top-left pixel of the first column is 129 in each plane, and above-right
+ * of the last column is the four pixels of right, which is read nowhere else; zopredil_right_pixels gives what every
+ * decoder has there. right has 4 bytes and record 81. Replies: 1 for right or record, nothing written; 7; 1 for a
+ * plane; after 7 and 1 for a plane the record is zeros: every edge absent. */
 uint32_t zopredil_gather(const uint8_t *y, size_t y_len, const uint8_t *u, size_t u_len, const uint8_t *v, size_t v_len,
-                         size_t cols, size_t rows, size_t col, size_t row, uint8_t *record, size_t record_len);
+                         size_t cols, size_t rows, size_t col, size_t row, const uint8_t *right, size_t right_len,
+                         uint8_t *record, size_t record_len);
+
+/* The four pixels above right of the last column of macroblock row row, for zopredil_gather: four copies of the last
+ * pixel of the row above, as every decoder has them. y is the luma plane of a picture that is cols macroblocks wide and
+ * rows high, in which the macroblock rows above row are finished and no loop filter has run; it has exactly 256 bytes a
+ * macroblock, and each side is 1 to 1,024. row counts from 0 and is at least 1, since nothing stands above the first.
+ * out has 4 bytes. Replies: 1 for out, nothing written; 7; 1 for y; after 7 and 1 for y out is zeros. */
+uint32_t zopredil_right_pixels(const uint8_t *y, size_t y_len, size_t cols, size_t rows, size_t row, uint8_t *out,
+                               size_t out_len);
 
 #ifdef __cplusplus
 }

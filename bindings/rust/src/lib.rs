@@ -12,9 +12,10 @@
 //! # Ok::<(), zopredil::Reply>(())
 //! ```
 //!
-//! [`gather`] takes the neighbours of a macroblock from the finished planes of a picture, [`macroblock`] draws it. The
-//! steps between are here too: [`y1_factors`] and [`dequant_block`] (14.1), [`inverse_wht`] (14.3), [`inverse_dct`]
-//! (14.4), [`add_residue`] (14.5), [`predict_y16x16`], [`predict_uv8x8`] and [`predict_b4x4`] (12.2 and 12.3).
+//! [`gather`] takes the neighbours of a macroblock from the finished planes of a picture, with the four pixels that
+//! [`right_pixels`] gives at the picture's right end, and [`macroblock`] draws it. The steps between are here too:
+//! [`y1_factors`] and [`dequant_block`] (14.1), [`inverse_wht`] (14.3), [`inverse_dct`] (14.4), [`add_residue`] (14.5),
+//! [`predict_y16x16`], [`predict_uv8x8`] and [`predict_b4x4`] (12.2 and 12.3).
 //!
 //! A call that can be refused answers with a [`Reply`]. Where the types rule every refusal out, the function returns its
 //! result as it is. [`raw`] has the C functions themselves.
@@ -27,7 +28,7 @@ pub mod raw;
 mod reply;
 mod transform;
 
-pub use macroblock::{gather, macroblock, Macroblock};
+pub use macroblock::{gather, macroblock, right_pixels, Macroblock};
 pub use modes::{IntraBmode, IntraUvMode, IntraYMode, MbModes};
 pub use neighbors::Neighbors;
 pub use predict::{predict_b4x4, predict_uv8x8, predict_y16x16};

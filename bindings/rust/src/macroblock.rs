@@ -63,20 +63,24 @@ pub fn macroblock(
 }
 
 /// Gathers the neighbours of the macroblock in column `col` and row `row` of a picture of finished planes that is `cols`
-/// macroblocks wide and `rows` high. The planes have exactly 256, 64 and 64 bytes a macroblock, rows unpadded. Refused
-/// with [`Reply::OutsidePicture`] unless each side is 1 to 1,024 and the place lies inside, then with
-/// [`Reply::WrongLength`] for a plane.
+/// macroblocks wide and `rows` high. The planes have exactly 256, 64 and 64 bytes a macroblock, rows unpadded. Below the
+/// first row the top-left pixels of the first column are 129, and above-right of the last column is `right`, which is
+/// read nowhere else; [`right_pixels`] gives what every decoder has there. Refused with [`Reply::OutsidePicture`] unless
+/// each side is 1 to 1,024 and the place lies inside, then with [`Reply::WrongLength`] for a plane.
 ///
 /// ```
 /// use zopredil::{gather, Reply};
 ///
 /// let (y, u, v) = ([1; 512], [2; 128], [3; 128]);
-/// let edges = gather(&y, &u, &v, 2, 1, 1, 0)?;
+/// let edges = gather(&y, &u, &v, 2, 1, 1, 0, [9; 4])?;
 /// assert_eq!((edges.y_left, edges.u_left, edges.y_above), (Some([1; 16]), Some([2; 8]), None));
-/// assert_eq!(gather(&y, &u, &v, 2, 1, 2, 0), Err(Reply::OutsidePicture));
-/// assert_eq!(gather(&y, &u, &u, 3, 1, 2, 0), Err(Reply::WrongLength));
+/// let edges = gather(&y, &u, &v, 1, 2, 0, 1, [9; 4])?;
+/// assert_eq!((edges.y_topleft, edges.y_above, edges.y_above_right), (Some(129), Some([1; 16]), Some([9; 4])));
+/// assert_eq!(gather(&y, &u, &v, 2, 1, 2, 0, [9; 4]), Err(Reply::OutsidePicture));
+/// assert_eq!(gather(&y, &u, &u, 3, 1, 2, 0, [9; 4]), Err(Reply::WrongLength));
 /// # Ok::<(), Reply>(())
 /// ```
+#[allow(clippy::too_many_arguments)] // the parameters of the C function
 pub fn gather(
     y: &[u8],
     u: &[u8],
@@ -85,9 +89,10 @@ pub fn gather(
     rows: usize,
     col: usize,
     row: usize,
+    right: [u8; 4],
 ) -> Result<Neighbors, Reply> {
     let mut record = [0; 81];
-    // SAFETY: the pointers and the lengths are those of the slices and of a local array, which alone is written.
+    // SAFETY: the pointers and the lengths are those of the slices and of local arrays, of which record is written.
     answer(unsafe {
         raw::zopredil_gather(
             y.as_ptr(),
@@ -100,9 +105,34 @@ pub fn gather(
             rows,
             col,
             row,
+            right.as_ptr(),
+            right.len(),
             record.as_mut_ptr(),
             record.len(),
         )
     })?;
     Neighbors::from_bytes(&record)
+}
+
+/// The four pixels above right of the last column of macroblock row `row`, for [`gather`]: four copies of the last pixel
+/// of the row above, as every decoder has them. `y` is the luma plane of a picture of `cols` by `rows` macroblocks, in
+/// which the macroblock rows above `row` are finished and no loop filter has run. Refused with
+/// [`Reply::OutsidePicture`] unless each side is 1 to 1,024 and `row` is a row but the first, then with
+/// [`Reply::WrongLength`] for the plane.
+///
+/// ```
+/// use zopredil::{right_pixels, Reply};
+///
+/// let mut y = [0; 1024]; // two by two macroblocks, 32 pixels a line
+/// y[15 * 32 + 31] = 77;
+/// assert_eq!(right_pixels(&y, 2, 2, 1)?, [77; 4]);
+/// assert_eq!(right_pixels(&y, 2, 2, 0), Err(Reply::OutsidePicture));
+/// assert_eq!(right_pixels(&y, 2, 3, 1), Err(Reply::WrongLength));
+/// # Ok::<(), Reply>(())
+/// ```
+pub fn right_pixels(y: &[u8], cols: usize, rows: usize, row: usize) -> Result<[u8; 4], Reply> {
+    let mut out = [0; 4];
+    // SAFETY: the pointers and the lengths are those of the slice and of a local array, which alone is written.
+    answer(unsafe { raw::zopredil_right_pixels(y.as_ptr(), y.len(), cols, rows, row, out.as_mut_ptr(), out.len()) })?;
+    Ok(out)
 }

@@ -69,12 +69,20 @@ extern "C" {
         out: *mut u8, out_len: usize,
     ) -> u32;
 
-    /// Gathers the neighbour record of a macroblock; `record` 81.
+    /// Gathers the neighbour record of a macroblock; `right` 4, `record` 81.
     pub fn zopredil_gather(
         y: *const u8, y_len: usize,
         u: *const u8, u_len: usize,
         v: *const u8, v_len: usize,
         cols: usize, rows: usize, col: usize, row: usize,
+        right: *const u8, right_len: usize,
         record: *mut u8, record_len: usize,
+    ) -> u32;
+
+    /// The four pixels above right of the last column of a macroblock row; `out` 4.
+    pub fn zopredil_right_pixels(
+        y: *const u8, y_len: usize,
+        cols: usize, rows: usize, row: usize,
+        out: *mut u8, out_len: usize,
     ) -> u32;
 }

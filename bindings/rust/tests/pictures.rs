@@ -215,7 +215,7 @@ fn picture() -> (Vec<u8>, Vec<u8>, Vec<u8>) {
 #[test]
 fn gathering_in_the_middle() {
     let (y, u, v) = picture();
-    let edges = gather(&y, &u, &v, 3, 2, 1, 1).unwrap();
+    let edges = gather(&y, &u, &v, 3, 2, 1, 1, [9; 4]).unwrap();
     let at = |tone: usize, row: usize, col: usize| (tone + 7 * row + col) as u8;
     assert_eq!(edges.y_topleft, Some(at(0, 15, 15)));
     assert_eq!(edges.y_above, Some(std::array::from_fn(|i| at(0, 15, 16 + i))));
@@ -234,15 +234,32 @@ fn gathering_at_the_rim() {
     let (y, u, v) = picture();
     for row in 0..2 {
         for col in 0..3 {
-            let edges = gather(&y, &u, &v, 3, 2, col, row).unwrap();
+            let right = [9, 8, 7, 6];
+            let edges = gather(&y, &u, &v, 3, 2, col, row, right).unwrap();
             let (above, left) = (row > 0, col > 0);
-            assert_eq!(edges.y_topleft.is_some(), above && left);
+            let margin = (above && !left).then_some(129);
+            for topleft in [edges.y_topleft, edges.u_topleft, edges.v_topleft] {
+                assert_eq!(topleft.is_some(), above);
+                assert!(margin.is_none() || topleft == margin);
+            }
             assert_eq!(edges.y_above.is_some(), above);
-            assert_eq!(edges.y_above_right.is_some(), above && col < 2);
+            assert_eq!(edges.y_above_right.is_some(), above);
+            assert_eq!(edges.y_above_right == Some(right), above && col == 2);
             assert_eq!(edges.y_left.is_some(), left);
-            assert_eq!((edges.u_topleft.is_some(), edges.v_topleft.is_some()), (above && left, above && left));
             assert_eq!((edges.u_above.is_some(), edges.v_above.is_some()), (above, above));
             assert_eq!((edges.u_left.is_some(), edges.v_left.is_some()), (left, left));
+            // elsewhere than in the last column below the first row the given pixels are not read
+            let other = gather(&y, &u, &v, 3, 2, col, row, [1, 2, 3, 4]).unwrap();
+            assert_eq!(other == edges, !(above && col == 2));
         }
     }
+}
+
+#[test]
+fn right_pixels_are_copies_of_the_last() {
+    let (y, u, v) = picture();
+    let right = right_pixels(&y, 3, 2, 1).unwrap();
+    assert_eq!(right, [y[15 * 48 + 47]; 4]);
+    let edges = gather(&y, &u, &v, 3, 2, 2, 1, right).unwrap();
+    assert_eq!(edges.y_above_right, Some([edges.y_above.unwrap()[15]; 4]));
 }

@@ -208,40 +208,71 @@ fn places_outside_the_picture() {
     for (cols, rows, col, row) in
         [(0, 1, 0, 0), (1, 0, 0, 0), (1025, 1, 0, 0), (1, 1025, 0, 0), (1, 1, 1, 0), (1, 1, 0, 1)]
     {
-        assert_eq!(gather(&y, &u, &v, cols, rows, col, row), Err(Reply::OutsidePicture));
+        assert_eq!(gather(&y, &u, &v, cols, rows, col, row, [9; 4]), Err(Reply::OutsidePicture));
     }
-    assert_eq!(gather(&y, &u, &v, 1 << 56, 1 << 8, 0, 0), Err(Reply::OutsidePicture));
-    assert_eq!(gather(&y, &u, &v, usize::MAX, usize::MAX, 0, 0), Err(Reply::OutsidePicture));
-    assert_eq!(gather(&y, &u, &v, 1, 1, 0, 0), Ok(Neighbors::default()));
+    assert_eq!(gather(&y, &u, &v, 1 << 56, 1 << 8, 0, 0, [9; 4]), Err(Reply::OutsidePicture));
+    assert_eq!(gather(&y, &u, &v, usize::MAX, usize::MAX, 0, 0, [9; 4]), Err(Reply::OutsidePicture));
+    assert_eq!(gather(&y, &u, &v, 1, 1, 0, 0, [9; 4]), Ok(Neighbors::default()));
 }
 
 #[test]
 fn planes_of_other_lengths() {
     let (y, u) = ([0; 257], [0; 65]);
     for (y_len, u_len, v_len) in [(255, 64, 64), (257, 64, 64), (256, 63, 64), (256, 65, 64), (256, 64, 0)] {
-        assert_eq!(gather(&y[..y_len], &u[..u_len], &u[..v_len], 1, 1, 0, 0), Err(Reply::WrongLength));
+        assert_eq!(gather(&y[..y_len], &u[..u_len], &u[..v_len], 1, 1, 0, 0, [9; 4]), Err(Reply::WrongLength));
     }
-    assert_eq!(gather(&[], &[], &[], 1, 1, 1, 0), Err(Reply::OutsidePicture)); // 7 comes before 1
+    // 7 comes before 1
+    assert_eq!(gather(&[], &[], &[], 1, 1, 1, 0, [9; 4]), Err(Reply::OutsidePicture));
 }
 
 #[test]
 fn records_after_a_refusal() {
-    let (y, u) = ([9; 256], [9; 64]);
-    let gathered = |y_len, cols, record_len| {
+    let (y, u, right) = ([9; 256], [9; 64], [9; 5]);
+    let gathered = |y_len, cols, right_len, record_len| {
         let mut record = [MARK; 82];
         let reply = unsafe {
-            let (y, u) = (y.as_ptr(), u.as_ptr());
-            zopredil_gather(y, y_len, u, 64, u, 64, cols, 1, 0, 0, record.as_mut_ptr(), record_len)
+            let (y, u, right) = (y.as_ptr(), u.as_ptr(), right.as_ptr());
+            zopredil_gather(y, y_len, u, 64, u, 64, cols, 1, 0, 0, right, right_len, record.as_mut_ptr(), record_len)
         };
         (reply, record)
     };
     let mut zeros = [0; 82];
     zeros[81] = MARK;
-    assert_eq!(gathered(256, 0, 81), (7, zeros));
-    assert_eq!(gathered(255, 1, 81), (1, zeros));
-    assert_eq!(gathered(256, 1, 80), (1, [MARK; 82]));
-    assert_eq!(gathered(256, 1, 82), (1, [MARK; 82]));
-    assert_eq!(gathered(256, 0, 80), (1, [MARK; 82])); // 1 for the record comes before 7
+    assert_eq!(gathered(256, 0, 4, 81), (7, zeros));
+    assert_eq!(gathered(255, 1, 4, 81), (1, zeros));
+    assert_eq!(gathered(256, 1, 4, 80), (1, [MARK; 82]));
+    assert_eq!(gathered(256, 1, 4, 82), (1, [MARK; 82]));
+    assert_eq!(gathered(256, 1, 3, 81), (1, [MARK; 82]));
+    assert_eq!(gathered(256, 1, 5, 81), (1, [MARK; 82]));
+    assert_eq!(gathered(256, 0, 4, 80), (1, [MARK; 82])); // 1 for the record and for right comes before 7
+    assert_eq!(gathered(256, 0, 3, 81), (1, [MARK; 82]));
+}
+
+#[test]
+fn right_pixels_of_no_row() {
+    let y = [9; 512];
+    for (cols, rows, row) in [(1, 2, 0), (1, 2, 2), (0, 2, 1), (1, 0, 1), (1025, 2, 1), (1, 1025, 1), (1, 1, 1)] {
+        assert_eq!(right_pixels(&y, cols, rows, row), Err(Reply::OutsidePicture));
+    }
+    assert_eq!(right_pixels(&y, usize::MAX, usize::MAX, usize::MAX), Err(Reply::OutsidePicture));
+    assert_eq!(right_pixels(&y[..511], 1, 2, 1), Err(Reply::WrongLength));
+    assert_eq!(right_pixels(&[], 1, 2, 2), Err(Reply::OutsidePicture)); // 7 comes before 1
+    assert_eq!(right_pixels(&y, 1, 2, 1), Ok([9; 4]));
+}
+
+#[test]
+fn right_pixels_after_a_refusal() {
+    let y = [9; 512];
+    let given = |y_len, row, out_len| {
+        let mut out = [MARK; 5];
+        let reply = unsafe { zopredil_right_pixels(y.as_ptr(), y_len, 1, 2, row, out.as_mut_ptr(), out_len) };
+        (reply, out)
+    };
+    assert_eq!(given(512, 1, 4), (0, [9, 9, 9, 9, MARK]));
+    assert_eq!(given(512, 0, 4), (7, [0, 0, 0, 0, MARK]));
+    assert_eq!(given(511, 1, 4), (1, [0, 0, 0, 0, MARK]));
+    assert_eq!(given(512, 1, 3), (1, [MARK; 5]));
+    assert_eq!(given(512, 0, 5), (1, [MARK; 5])); // 1 for out comes before 7
 }
 
 #[test]

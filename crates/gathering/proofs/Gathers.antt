@@ -1,10 +1,10 @@
 -- What gathering answers, of every answer that its promise admits: 7 and 1 exactly where the limits say so, with every edge absent; else 0,
--- each edge outside the picture absent with zero bytes, and each other the finished pixels beside the macroblock.
+-- each edge outside the picture absent with zero bytes, and each other the finished pixels beside the macroblock; below the first row the
+-- top-left pixels of the first column 129, and the four above right of the last column those given.
 -- Assumes nothing.
 use Prim.Native.Nat.{ℕ, _+_, _-_, _*_, _<_, _≤_}
 use mathlib.Core.Bool.{true}
 use mathlib.Core.Path.{_≡_, ap, _∙_}
-use mathlib.Core.Logic.{_⊎_}
 use mathlib.Core.List.{List}
 use native.Mathlib.Omega.{arith}
 use lib.ListN.{length}
@@ -12,10 +12,11 @@ use Rattle.macroblock.specs.Reply.{done, wrongLength, outsidePicture}
 use Rattle.rfc6386.specs.Picture.{neighborsOf, placeOk}
 use Rattle.gathering.specs.declared.Gathered.{Gathered}
 use Rattle.gathering.specs.Answers.{gathered, refused}
-use Rattle.gathering.proofs.Accepted.{Within, Lengths, place-true, place-false, sizes-true, sizes-false, placed}
-use Rattle.gathering.proofs.Pixels.{Absent, There, Around, around, right-outside, right-beside}
+use Rattle.picture_limits.proofs.Accepted.{Within, Lengths, place-true, place-false, sizes-true, sizes-false}
+use Rattle.picture_limits.proofs.Bounds.{placed}
+use Rattle.gathering.proofs.Pixels.{Absent, There, Around, around, right-outside, right-given, right-beside}
 
-module _ (y u v : List ℕ) (w h c r : ℕ) (g : Gathered) (e : g ≡ gathered y u v w h c r) where
+module _ (y u v : List ℕ) (w h c r : ℕ) (right : List ℕ) (g : Gathered) (e : g ≡ gathered y u v w h c r right) where
   pub place-refused : (Within w h c r → ⊥) → g ≡ refused outsidePicture
   unfolding gathered
   place-refused k = e ∙ rw (place-false w h c r k)
@@ -29,14 +30,14 @@ module _ (y u v : List ℕ) (w h c r : ℕ) (g : Gathered) (e : g ≡ gathered y
     lengths-refused k = e ∙ rw (here, sizes-false (length y) (length u) (length v) w h k)
 
     module _ (q : Lengths (length y) (length u) (length v) w h) where
-      pub accepted : g ≡ record { reply = done; neighbors = neighborsOf y u v w r c }
+      pub accepted : g ≡ record { reply = done; neighbors = neighborsOf y u v w r c right }
       unfolding gathered
       accepted = e ∙ rw (here, sizes-true (length y) (length u) (length v) w h q)
 
       pub reply-done : g .reply ≡ 0
       reply-done = ap (λ (x : Gathered). x .reply) accepted
 
-      n-is : g .neighbors ≡ neighborsOf y u v w r c
+      n-is : g .neighbors ≡ neighborsOf y u v w r c right
       n-is = ap (λ (x : Gathered). x .neighbors) accepted
 
       -- ---- the edges that each plane has, by the law over the side
@@ -56,11 +57,15 @@ module _ (y u v : List ℕ) (w h c r : ℕ) (g : Gathered) (e : g ≡ gathered y
       v-edges = rw n-is (around (placed 8 v w h c r (omega arith) (p .column) (p .row) (q .v-plane)))
 
       -- ---- and above-right, of luma alone
-      pub above-right-outside : (r ≡ 0) ⊎ (c + 1 ≡ w) → Absent 4 (g .neighbors .«y_above_right_there») (g .neighbors .«y_above_right»)
+      pub above-right-outside : r ≡ 0 → Absent 4 (g .neighbors .«y_above_right_there») (g .neighbors .«y_above_right»)
       unfolding neighborsOf
-      above-right-outside z = rw n-is (right-outside y w r c z)
+      above-right-outside z = rw n-is (right-outside y w r c right z)
+
+      pub above-right-given : 0 < r → c + 1 ≡ w → (g .neighbors .«y_above_right_there» ≡ true) × (g .neighbors .«y_above_right» ≡ right)
+      unfolding neighborsOf
+      above-right-given z t = rw n-is (right-given y w r c right z t)
 
       pub above-right-beside : 0 < r → c + 1 < w
           → There y 4 (λ i. (16 * r - 1) * (16 * w) + (16 * c + 16) + i) (g .neighbors .«y_above_right_there») (g .neighbors .«y_above_right»)
       unfolding neighborsOf
-      above-right-beside z t = rw n-is (right-beside y w r c (placed 16 y w h c r (omega arith) (p .column) (p .row) (q .y-plane)) z t)
+      above-right-beside z t = rw n-is (right-beside y w r c right (placed 16 y w h c r (omega arith) (p .column) (p .row) (q .y-plane)) z t)

@@ -1,15 +1,13 @@
 -- The laws of gathering.
---     Given         when a row's part is given, and what it then holds
---     Accepted      what the tests of the size, the place and the planes' lengths say
---     Bounds        the bounds that the edges of a macroblock keep to in its plane
+--     Copied        the copies of the edges find all their pixels
 --     Joined        the neighbour record, put together from the edges of the planes
---     Pixels        an edge outside the picture is absent; any other is the pixels beside the macroblock
+--     Pixels        an edge outside the picture is absent; any other is the pixels beside the macroblock, or the border
 --     Gathers       all of it, of every answer that the promise of `gather` admits
---     OneAnswer     each promise admits one answer only
-pub mod Given
-pub mod Accepted
-pub mod Bounds
+--     Unread        where the given pixels change nothing
+--     OneAnswer     the promise admits one answer only
+pub mod Copied
 pub mod Joined
 pub mod Pixels
 pub mod Gathers
+pub mod Unread
 pub mod OneAnswer

@@ -1,24 +1,22 @@
 -- What the edges of a macroblock that lies in its plane hold, over the side n: outside the picture an edge is absent, its bytes 0; any other
--- is the finished pixels beside the macroblock, each by its row and column in the plane.
+-- is the finished pixels beside the macroblock, each by its row and column in the plane. Below the first row the top-left pixel of the first
+-- column is 129, and the four above right of the last column are those given.
 -- Assumes nothing.
 use Prim.Native.Nat.{ℕ, _+_, _-_, _*_, _<_, _≤_}
 use mathlib.Core.Bool.{Bool, true, false}
-use mathlib.Core.Path.{_≡_, refl, sym, ap, _∙_}
-use mathlib.Core.Logic.{_⊎_, inl, inr, ⊎-elim}
+use mathlib.Core.Path.{_≡_, refl, ap, _∙_}
+use mathlib.Core.Logic.{_⊎_, ⊎-elim}
 use mathlib.Core.List.{List}
 use native.Mathlib.Nat.{add-mul}
 use native.Mathlib.Omega.{arith}
-use lib.Dec.{ltb, ltb→lt}
 use lib.ListN.{length, getD, take, drop, replicate}
 use borrow.Author.Tests.{lt-ltb, le-ltb}
-use Rattle.lists.specs.Lists.{both}
-use Rattle.lists.proofs.Tests.{both-false}
 use Rattle.lists.proofs.Table.{table-length, table-at}
 use Rattle.lists.proofs.Rows.{row-within}
 use Rattle.rfc6386.specs.Picture.{aboveThere, leftThere, topLeftThere, aboveRightThere, aboveOf, leftOf, topLeftOf, aboveRightOf}
-use Rattle.gathering.specs.Place.{Placed}
-use Rattle.gathering.proofs.Given.{piece-length, piece-at}
-use Rattle.gathering.proofs.Bounds.{above, left}
+use Rattle.picture_limits.specs.Place.{Placed}
+use Rattle.row_part.proofs.Given.{piece-length, piece-at}
+use Rattle.picture_limits.proofs.Bounds.{above, left}
 
 -- an edge and its mark: absent, k bytes 0
 pub record Absent (k : ℕ) (mark : Bool) (bytes : List ℕ) : Type 0 where
@@ -38,20 +36,14 @@ pub record Around (n : ℕ) (l : List ℕ) (w r c p : ℕ) (above left : List �
   pub above-beside : 0 < r → There l n (λ i. (n * r - 1) * (n * w) + n * c + i) above-mark above
   pub left-outside : c ≡ 0 → Absent n left-mark left
   pub left-beside : 0 < c → There l n (λ i. (n * r + i) * (n * w) + (n * c - 1)) left-mark left
-  pub top-left-outside : (r ≡ 0) ⊎ (c ≡ 0) → (p-mark ≡ false) × (p ≡ 0)
+  pub top-left-outside : r ≡ 0 → (p-mark ≡ false) × (p ≡ 0)
+  pub top-left-margin : 0 < r → c ≡ 0 → (p-mark ≡ true) × (p ≡ 129)
   pub top-left-beside : 0 < r → 0 < c → (p-mark ≡ true) × (p ≡ getD l ((n * r - 1) * (n * w) + (n * c - 1)) 0)
 
 -- the k pixels from a place on
 piece-there : (l : List ℕ) (at k : ℕ) → at + k ≤ length l → There l k (λ i. at + i) true (take k (drop at l))
 piece-there l at k h =
     record { on = refl; count = piece-length l at k h; inside = λ i t. omega arith; pixels = piece-at l at k h }
-
--- a mark of two tests is off where one of them fails
-unmarked : (a b d e : ℕ) → (b ≤ a) ⊎ (e ≤ d) → both (ltb a b) (ltb d e) ≡ false
-unmarked a b d e h =
-    sym
-    (both-false (ltb a b) (ltb d e)
-    (λ p q. let f = ltb→lt a b p in let g = ltb→lt d e q in ⊎-elim (λ z. omega arith) (λ z. omega arith) h))
 
 module _ {n : ℕ} {l : List ℕ} {w r c : ℕ} (p : Placed n l w r c) where
   left-column : 0 < c → There l n (λ i. (n * r + i) * (n * w) + (n * c - 1)) (leftThere r c) (leftOf n l w r c)
@@ -74,21 +66,29 @@ module _ {n : ℕ} {l : List ℕ} {w r c : ℕ} (p : Placed n l w r c) where
         above-beside = λ h. let a = above p h in rw (lt-ltb 0 r h) (piece-there l ((n * r - 1) * (n * w) + n * c) n (omega arith));
         left-outside = λ z. let f = le-ltb 0 c (omega arith) in record { off = f; zeros = rw f };
         left-beside = left-column;
-        top-left-outside = λ z. let f = unmarked 0 r 0 c (⊎-elim (λ q. inl (omega arith)) (λ q. inr (omega arith)) z) in (f, rw f);
-        top-left-beside = λ h g. (rw (lt-ltb 0 r h, lt-ltb 0 c g), rw (lt-ltb 0 r h, lt-ltb 0 c g));
+        top-left-outside = λ z. let f = le-ltb 0 r (omega arith) in (f, rw f);
+        top-left-margin = λ h z. (lt-ltb 0 r h, rw (lt-ltb 0 r h, le-ltb 0 c (omega arith)));
+        top-left-beside = λ h g. (lt-ltb 0 r h, rw (lt-ltb 0 r h, lt-ltb 0 c g));
       }
 
 -- ---- the four luma pixels right of the row above
-module _ (l : List ℕ) (w r c : ℕ) where
-  pub right-outside : (r ≡ 0) ⊎ (c + 1 ≡ w) → Absent 4 (aboveRightThere w r c) (aboveRightOf l w r c)
+module _ (l : List ℕ) (w r c : ℕ) (right : List ℕ) where
+  pub right-outside : r ≡ 0 → Absent 4 (aboveRightThere r c) (aboveRightOf l w r c right)
   unfolding aboveRightOf
-  right-outside z =
-      let f = unmarked 0 r (c + 1) w (⊎-elim (λ q. inl (omega arith)) (λ q. inr (omega arith)) z) in
-      record { off = f; zeros = rw f }
+  right-outside z = let f = le-ltb 0 r (omega arith) in record { off = f; zeros = rw f }
+
+  pub right-given : 0 < r → c + 1 ≡ w → (aboveRightThere r c ≡ true) × (aboveRightOf l w r c right ≡ right)
+  unfolding aboveRightOf
+  right-given h z = (lt-ltb 0 r h, rw (lt-ltb 0 r h, le-ltb (c + 1) w (omega arith)))
 
   pub right-beside : Placed 16 l w r c → 0 < r → c + 1 < w
-      → There l 4 (λ i. (16 * r - 1) * (16 * w) + (16 * c + 16) + i) (aboveRightThere w r c) (aboveRightOf l w r c)
+      → There l 4 (λ i. (16 * r - 1) * (16 * w) + (16 * c + 16) + i) (aboveRightThere r c) (aboveRightOf l w r c right)
   unfolding aboveRightOf
   right-beside p h g =
       let a = above p h in
       rw (lt-ltb 0 r h, lt-ltb (c + 1) w g) (piece-there l ((16 * r - 1) * (16 * w) + (16 * c + 16)) 4 (omega arith))
+
+  -- elsewhere than in the last column below the first row the given pixels are not read
+  pub right-unread : (s : List ℕ) → (r ≡ 0) ⊎ (c + 1 < w) → aboveRightOf l w r c right ≡ aboveRightOf l w r c s
+  unfolding aboveRightOf
+  right-unread s = ⊎-elim (λ z. rw (le-ltb 0 r (omega arith))) (λ z. rw (lt-ltb (c + 1) w z))

@@ -1,3 +1,3 @@
--- What gathering answers, and when a macroblock lies in its plane.
-pub mod Place
+-- What gathering answers.
+pub mod Edges
 pub mod Answers

@@ -1,13 +1,15 @@
 // The edges of a macroblock that lies in its plane, over the side n: 16 pixels in Y, 8 in U and V. The macroblock stands in
 // column c and row r of a picture w macroblocks wide, so that a row of the plane has n w pixels. Each edge is written over
-// zero bytes, which stay where the edge lies outside the picture.
+// zero bytes, which stay where the edge is absent.
 ghost use mathlib.Core.Path.{_≡_};
 ghost use Prim.Native.Nat.{_+_, _*_, _≤_, _<_};
 ghost use lib.ListN.{length, take, getD, replicate};
 ghost use Rattle.lists.specs.Lists.{table};
 ghost use Rattle.rfc6386.specs.Picture.{aboveOf, leftOf, topLeftOf, aboveRightOf};
-ghost use Rattle.gathering.specs.Place.{Placed, Edges};
-use crate::part::row_part;
+ghost use Rattle.picture_limits.specs.Place.{Placed};
+ghost use Rattle.gathering.specs.Edges.{Edges};
+use macroblock::MbNeighbors;
+use row_part::row_part;
 
 // The row above and the left column, and the top-left pixel as the answer.
 pub(crate) fn plane_edges(
@@ -49,7 +51,7 @@ fn left_column(dst: &mut [u8], plane: &[u8], n: usize, w: usize, r: usize, c: us
     }
 }
 
-// The pixel of row n r - 1 and column n c - 1.
+// The pixel of row n r - 1 and column n c - 1; left of the picture, the border's.
 fn top_left(plane: &[u8], n: usize, w: usize, r: usize, c: usize) -> u8
     requires { ⌜ Placed n (now plane) w r c ⌝ }
     ensures { λ p. ⌜ p ≡ topLeftOf n (now (plane .entry)) w r c ⌝ }
@@ -59,19 +61,29 @@ fn top_left(plane: &[u8], n: usize, w: usize, r: usize, c: usize) -> u8
             let stride = n * w;
             return plane[(n * r - 1) * stride + (n * c - 1)];
         }
+        return MbNeighbors::LEFT;
     }
     0
 }
 
-// The four luma pixels right of the row above.
-pub(crate) fn above_right(dst: &mut [u8], plane: &[u8], w: usize, r: usize, c: usize)
+// The four luma pixels right of the row above, or those given where the picture ends.
+pub(crate) fn above_right(
+    dst: &mut [u8],
+    plane: &[u8],
+    w: usize,
+    r: usize,
+    c: usize,
+    given: &[u8; 4],
+)
     requires { ⌜ Placed 16 (now plane) w r c × (now dst ≡ replicate 4 0) ⌝ }
-    ensures { λ _. ⌜ now (dst .exit) ≡ aboveRightOf (now (plane .entry)) w r c ⌝ }
+    ensures { λ _. ⌜ now (dst .exit) ≡ aboveRightOf (now (plane .entry)) w r c (now (given .entry)) ⌝ }
 {
     if 0 < r {
         if c + 1 < w {
             let part = row_part(plane, 16 * w, 16 * r - 1, 16 * c + 16, 4);
             copy(dst, part);
+        } else {
+            copy(dst, given);
         }
     }
 }

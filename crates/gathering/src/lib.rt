@@ -7,21 +7,19 @@
 //        column   |                     |
 //
 // In Y the row above is row 16 row - 1 of the plane and the left column is column 16 col - 1; in U and V 8 stands for 16.
-// An edge outside the picture is absent and its bytes are 0; any other is the finished pixels beside the macroblock.
+// An edge outside the picture is absent and its bytes are 0; any other is the finished pixels beside the macroblock. Two
+// pixels outside are there below the first row: the top-left pixel of the first column is 129, in each plane, and the four
+// above right of the last column are those that the caller gives.
 ghost use mathlib.Core.Path.{_≡_};
 ghost use Rattle.gathering.specs.Answers.{gathered, refused};
-use crate::limits::place_ok;
-use crate::limits::sizes_ok;
 use crate::record::beside;
 use macroblock::MbNeighbors;
 use macroblock::reply;
+use picture_limits::place_ok;
+use picture_limits::sizes_ok;
 
 mod edges;
-mod limits;
-mod part;
 mod record;
-
-pub use part::row_part;
 
 // The neighbours, or the number of the refusal.
 pub struct Gathered {
@@ -29,7 +27,8 @@ pub struct Gathered {
     pub neighbors: MbNeighbors,
 }
 
-// The neighbours of the macroblock in column `col` and row `row` of a picture of `cols` by `rows` macroblocks.
+// The neighbours of the macroblock in column `col` and row `row` of a picture of `cols` by `rows` macroblocks. `right` is
+// read in the last column below the first row alone.
 pub fn gather(
     y: &[u8],
     u: &[u8],
@@ -38,14 +37,15 @@ pub fn gather(
     rows: usize,
     col: usize,
     row: usize,
+    right: [u8; 4],
 ) -> Gathered
-    ensures { λ g. ⌜ g ≡ gathered (now (y .entry)) (now (u .entry)) (now (v .entry)) cols rows col row ⌝ }
+    ensures { λ g. ⌜ g ≡ gathered (now (y .entry)) (now (u .entry)) (now (v .entry)) cols rows col row right ⌝ }
 {
     let place = place_ok(cols, rows, col, row);
     let sizes = sizes_ok(y.len(), u.len(), v.len(), cols, rows);
     if place {
         if sizes {
-            let neighbors = beside(y, u, v, cols, row, col);
+            let neighbors = beside(y, u, v, cols, row, col, right);
             return Gathered {
                 reply: reply::DONE,
                 neighbors,

@@ -1,9 +1,9 @@
 // The neighbour record of a macroblock that lies in each of the three planes: the edges of each plane, and the marks which of
 // them are there.
 ghost use mathlib.Core.Path.{_≡_};
-ghost use Rattle.lists.specs.Lists.{both};
 ghost use Rattle.rfc6386.specs.Picture.{aboveRightOf, neighborsOf};
-ghost use Rattle.gathering.specs.Place.{Placed, Edges};
+ghost use Rattle.picture_limits.specs.Place.{Placed};
+ghost use Rattle.gathering.specs.Edges.{Edges};
 use crate::edges::above_right;
 use crate::edges::plane_edges;
 use macroblock::MbNeighbors;
@@ -21,11 +21,19 @@ struct Chroma {
     left: [u8; 8],
 }
 
-pub(crate) fn beside(y: &[u8], u: &[u8], v: &[u8], w: usize, r: usize, c: usize) -> MbNeighbors
+pub(crate) fn beside(
+    y: &[u8],
+    u: &[u8],
+    v: &[u8],
+    w: usize,
+    r: usize,
+    c: usize,
+    right: [u8; 4],
+) -> MbNeighbors
     requires { ⌜ Placed 16 (now y) w r c × Placed 8 (now u) w r c × Placed 8 (now v) w r c ⌝ }
-    ensures { λ n. ⌜ n ≡ neighborsOf (now (y .entry)) (now (u .entry)) (now (v .entry)) w r c ⌝ }
+    ensures { λ n. ⌜ n ≡ neighborsOf (now (y .entry)) (now (u .entry)) (now (v .entry)) w r c right ⌝ }
 {
-    let ey = luma_edges(y, w, r, c);
+    let ey = luma_edges(y, w, r, c, right);
     let y_above = ey.above;
     let y_above_right = ey.right;
     let y_left = ey.left;
@@ -37,25 +45,23 @@ pub(crate) fn beside(y: &[u8], u: &[u8], v: &[u8], w: usize, r: usize, c: usize)
     let v_left = ev.left;
     let above = 0 < r;
     let left = 0 < c;
-    let topleft = both(above, left);
-    let right = both(above, c + 1 < w);
     MbNeighbors {
         y_topleft: ey.topleft,
-        y_topleft_there: topleft,
+        y_topleft_there: above,
         y_above,
         y_above_there: above,
         y_above_right,
-        y_above_right_there: right,
+        y_above_right_there: above,
         y_left,
         y_left_there: left,
         u_topleft: eu.topleft,
-        u_topleft_there: topleft,
+        u_topleft_there: above,
         u_above,
         u_above_there: above,
         u_left,
         u_left_there: left,
         v_topleft: ev.topleft,
-        v_topleft_there: topleft,
+        v_topleft_there: above,
         v_above,
         v_above_there: above,
         v_left,
@@ -63,17 +69,17 @@ pub(crate) fn beside(y: &[u8], u: &[u8], v: &[u8], w: usize, r: usize, c: usize)
     }
 }
 
-fn luma_edges(plane: &[u8], w: usize, r: usize, c: usize) -> Luma
+fn luma_edges(plane: &[u8], w: usize, r: usize, c: usize, given: [u8; 4]) -> Luma
     requires { ⌜ Placed 16 (now plane) w r c ⌝ }
     ensures { λ e. ⌜
-        Edges 16 (now (plane .entry)) w r c (e .topleft) (e .above) (e .left) × (e .right ≡ aboveRightOf (now (plane .entry)) w r c)
+        Edges 16 (now (plane .entry)) w r c (e .topleft) (e .above) (e .left) × (e .right ≡ aboveRightOf (now (plane .entry)) w r c given)
         ⌝ }
 {
     let mut above = [0u8; 16];
     let mut left = [0u8; 16];
     let topleft = plane_edges(&mut above, &mut left, plane, 16, w, r, c);
     let mut right = [0u8; 4];
-    above_right(&mut right, plane, w, r, c);
+    above_right(&mut right, plane, w, r, c, &given);
     Luma {
         topleft,
         above,
@@ -94,10 +100,4 @@ fn chroma_edges(plane: &[u8], w: usize, r: usize, c: usize) -> Chroma
         above,
         left,
     }
-}
-
-fn both(a: bool, b: bool) -> bool
-    ensures { λ r. ⌜ r ≡ both a b ⌝ }
-{
-    if a { b } else { false }
 }

@@ -18,7 +18,9 @@ unfoldable pub rowPart : List ℕ → ℕ → ℕ → ℕ → ℕ → List ℕ
 rowPart l stride row col count =
     pick (given (length l) stride row col count) (take count (drop (row * stride + col) l)) []
 
--- ---- the edges of the macroblock in column c and row r. Outside the picture an edge is absent and its bytes are 0
+-- ---- the edges of the macroblock in column c and row r. In the first row nothing stands above, in the first column nothing to the left:
+-- such an edge is absent and its bytes are 0. Below the first row the top-left pixel of the first column is there all the same: the
+-- reference decoder's frame has a border of 129 left of the picture, and of 127 above it, the corner with it
 abbrev pub aboveThere : ℕ → ℕ → Bool
 aboveThere r c = ltb 0 r
 
@@ -26,10 +28,10 @@ abbrev pub leftThere : ℕ → ℕ → Bool
 leftThere r c = ltb 0 c
 
 abbrev pub topLeftThere : ℕ → ℕ → Bool
-topLeftThere r c = both (ltb 0 r) (ltb 0 c)
+topLeftThere r c = ltb 0 r
 
-abbrev pub aboveRightThere : ℕ → ℕ → ℕ → Bool
-aboveRightThere w r c = both (ltb 0 r) (ltb (c + 1) w)
+abbrev pub aboveRightThere : ℕ → ℕ → Bool
+aboveRightThere r c = ltb 0 r
 
 -- the n pixels of row n r - 1 from column n c on
 unfoldable pub aboveOf : ℕ → List ℕ → ℕ → ℕ → ℕ → List ℕ
@@ -40,24 +42,25 @@ unfoldable pub leftOf : ℕ → List ℕ → ℕ → ℕ → ℕ → List ℕ
 leftOf n l w r c =
     pick (leftThere r c) (table n (λ i. getD l (n * r * (n * w) + (n * c - 1) + i * (n * w)) 0)) (replicate n 0)
 
+-- the pixel of row n r - 1 and column n c - 1, or the border's
 unfoldable pub topLeftOf : ℕ → List ℕ → ℕ → ℕ → ℕ → ℕ
-topLeftOf n l w r c = pick (topLeftThere r c) (getD l ((n * r - 1) * (n * w) + (n * c - 1)) 0) 0
+topLeftOf n l w r c = pick (topLeftThere r c) (pick (leftThere r c) (getD l ((n * r - 1) * (n * w) + (n * c - 1)) 0) 129) 0
 
--- the four luma pixels right of the row above
-unfoldable pub aboveRightOf : List ℕ → ℕ → ℕ → ℕ → List ℕ
-aboveRightOf l w r c =
-    pick (aboveRightThere w r c) (take 4 (drop ((16 * r - 1) * (16 * w) + (16 * c + 16)) l)) (replicate 4 0)
+-- the four luma pixels right of the row above; in the last column they are outside the picture, and given
+unfoldable pub aboveRightOf : List ℕ → ℕ → ℕ → ℕ → List ℕ → List ℕ
+aboveRightOf l w r c right =
+    pick (aboveRightThere r c) (pick (ltb (c + 1) w) (take 4 (drop ((16 * r - 1) * (16 * w) + (16 * c + 16)) l)) right) (replicate 4 0)
 
--- ---- the record
-unfoldable pub neighborsOf : List ℕ → List ℕ → List ℕ → ℕ → ℕ → ℕ → MbNeighbors
-neighborsOf y u v w r c =
+-- ---- the record; `right` is read in the last column below the first row alone
+unfoldable pub neighborsOf : List ℕ → List ℕ → List ℕ → ℕ → ℕ → ℕ → List ℕ → MbNeighbors
+neighborsOf y u v w r c right =
     record {
       «y_topleft» = topLeftOf 16 y w r c;
       «y_topleft_there» = topLeftThere r c;
       «y_above» = aboveOf 16 y w r c;
       «y_above_there» = aboveThere r c;
-      «y_above_right» = aboveRightOf y w r c;
-      «y_above_right_there» = aboveRightThere w r c;
+      «y_above_right» = aboveRightOf y w r c right;
+      «y_above_right_there» = aboveRightThere r c;
       «y_left» = leftOf 16 y w r c;
       «y_left_there» = leftThere r c;
       «u_topleft» = topLeftOf 8 u w r c;
@@ -78,5 +81,8 @@ neighborsOf y u v w r c =
 unfoldable pub placeOk : ℕ → ℕ → ℕ → ℕ → Bool
 placeOk w h c r = both (leb w 1024) (both (leb h 1024) (both (ltb c w) (ltb r h)))
 
+abbrev pub lumaOk : ℕ → ℕ → ℕ → Bool
+lumaOk y w h = eqb y (256 * (w * h))
+
 unfoldable pub sizesOk : ℕ → ℕ → ℕ → ℕ → ℕ → Bool
-sizesOk y u v w h = both (eqb y (256 * (w * h))) (both (eqb u (64 * (w * h))) (eqb v (64 * (w * h))))
+sizesOk y u v w h = both (lumaOk y w h) (both (eqb u (64 * (w * h))) (eqb v (64 * (w * h))))

@@ -93,6 +93,7 @@ pub fn gather(
     rows: usize,
     col: usize,
     row: usize,
+    right: &[u8],
     record: &mut [u8],
 ) -> u32 {
     unsafe {
@@ -107,8 +108,14 @@ pub fn gather(
             rows,
             col,
             row,
+            start(right),
+            right.len(),
             start_mut(record),
             record.len(),
         )
     }
+}
+
+pub fn right_pixels(y: &[u8], cols: usize, rows: usize, row: usize, out: &mut [u8]) -> u32 {
+    unsafe { raw::zopredil_right_pixels(start(y), y.len(), cols, rows, row, start_mut(out), out.len()) }
 }

@@ -56,6 +56,7 @@ fn compare() -> Result<bool, String> {
     macroblocks += walkers::b(&mut run);
     walkers::refused(&mut run);
     gathering::gather(&mut run);
+    gathering::right_pixels(&mut run);
     lengths::wrong_lengths(&mut run);
     if let Some(file) = words.sample {
         let bytes = std::fs::read(&file).map_err(|why| format!("{file}: {why}"))?;

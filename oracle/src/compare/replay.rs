@@ -117,12 +117,18 @@ fn replay(kind: u8, input: &[u8], planes: &mut [Vec<u8>; 3]) -> Vec<u8> {
         12 => {
             let mut record = [FILL; 81];
             let [y, u, v] = planes.each_ref().map(|plane| &plane[..i.length()]);
-            let reply = library::gather(y, u, v, i.size(), i.size(), i.size(), i.size(), &mut record);
+            let [cols, rows, col, row] = std::array::from_fn(|_| i.size());
+            let reply = library::gather(y, u, v, cols, rows, col, row, i.bytes(4), &mut record);
             answer(reply, &record)
         }
         13 => {
             *planes = PLANES.map(|length| i.bytes(length).to_vec());
             Vec::new()
+        }
+        17 => {
+            let mut out = [FILL; 4];
+            let y = &planes[0][..i.length()];
+            answer(library::right_pixels(y, i.size(), i.size(), i.size(), &mut out), &out)
         }
         _ => wrong_lengths(&mut i),
     }
@@ -167,7 +173,8 @@ fn wrong_lengths(i: &mut Input) -> Vec<u8> {
         9 => library::predict_uv8x8(0, &zeros[..a], &zeros[..b], 0, &mut out[..c]),
         10 => library::predict_b4x4(0, &zeros[..a], &zeros[..b], 0, &mut out[..c]),
         11 => library::macroblock(&zeros[..a], &zeros[..b], &zeros[..c], &zero_shorts[..d], &mut out[..e]),
-        _ => library::gather(&zeros[..a], &zeros[..b], &zeros[..c], 1, 1, 0, 0, &mut out[..d]),
+        12 => library::gather(&zeros[..a], &zeros[..b], &zeros[..c], 1, 1, 0, 0, &zeros[..d], &mut out[..e]),
+        _ => library::right_pixels(&zeros[..a], 1, 2, 1, &mut out[..b]),
     };
     let kept = out == [FILL; MOST] && out_shorts == [FILL_SHORT; MOST];
     answer(if kept { reply } else { 255 }, &[])

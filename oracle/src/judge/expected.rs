@@ -276,9 +276,10 @@ pub fn gather(
     rows: usize,
     col: usize,
     row: usize,
+    right: &[u8],
     record: &mut [u8],
 ) -> u32 {
-    if record.len() != 81 {
+    if record.len() != 81 || right.len() != 4 {
         return WRONG_LENGTH;
     }
     record.fill(0);
@@ -298,11 +299,10 @@ pub fn gather(
     for (pixels, n, marks, starts) in planes {
         let plane = Plane { pixels, n, cols };
         let (top, start) = (row * n, col * n);
-        if inside_above && inside_left {
-            record[marks[0]] = 1;
-            record[starts[0]] = plane.at(top - 1, start - 1);
-        }
         if inside_above {
+            // left of the picture stands the reference decoder's border
+            record[marks[0]] = 1;
+            record[starts[0]] = if inside_left { plane.at(top - 1, start - 1) } else { 129 };
             record[marks[1]] = 1;
             for i in 0..n {
                 record[starts[1] + i] = plane.at(top - 1, start + i);
@@ -315,11 +315,29 @@ pub fn gather(
             }
         }
     }
-    if inside_above && inside_right {
+    if inside_above {
         record[2] = 1;
+        let plane = Plane { pixels: y, n: 16, cols };
         for i in 0..4 {
-            record[27 + i] = Plane { pixels: y, n: 16, cols }.at(row * 16 - 1, col * 16 + 16 + i);
+            record[27 + i] = if inside_right { plane.at(row * 16 - 1, col * 16 + 16 + i) } else { right[i] };
         }
     }
+    DONE
+}
+
+/// The last pixel of the line above a macroblock row, four times.
+pub fn right_pixels(y: &[u8], cols: usize, rows: usize, row: usize, out: &mut [u8]) -> u32 {
+    if out.len() != 4 {
+        return WRONG_LENGTH;
+    }
+    out.fill(0);
+    let side = 1..=1024;
+    if !side.contains(&cols) || !side.contains(&rows) || row < 1 || row >= rows {
+        return OUTSIDE_PICTURE;
+    }
+    if y.len() != 256 * cols * rows {
+        return WRONG_LENGTH;
+    }
+    out.fill(Plane { pixels: y, n: 16, cols }.at(16 * row - 1, 16 * cols - 1));
     DONE
 }

@@ -13,7 +13,7 @@ const fn kind(number: u8, name: &'static str, input: usize, expected: usize) -> 
     Kind { number, name, input, expected }
 }
 
-pub const KINDS: [Kind; 16] = [
+pub const KINDS: [Kind; 17] = [
     kind(1, "y1_factors", 8, 5),
     kind(2, "dequant_block", 36, 33),
     kind(3, "inverse_wht", 32, 33),
@@ -25,11 +25,12 @@ pub const KINDS: [Kind; 16] = [
     kind(9, "predict_uv8x8", 20, 65),
     kind(10, "predict_b4x4", 14, 17),
     kind(11, "macroblock, 400 coefficients", 901, 385),
-    kind(12, "gather", 38, 82),
+    kind(12, "gather", 42, 82),
     kind(13, "planes for gather", 2304, 0),
     kind(14, "macroblock, one coefficient and sixteen places", 167, 385),
     kind(15, "inverse_dct_add_into, plane of at most 256", 314, 257),
     kind(16, "wrong lengths", 11, 1),
+    kind(17, "right_pixels", 26, 5),
 ];
 
 /// What every byte of a slice holds that a function is to write, before the call.

@@ -14,7 +14,7 @@ const FILL_SHORT: i16 = i16::from_le_bytes([FILL; 2]);
 /// The records written so far.
 struct Sample {
     bytes: Vec<u8>,
-    counts: [usize; 17],
+    counts: [usize; 18],
     random: Random,
 }
 
@@ -367,7 +367,8 @@ fn refused_macroblocks(s: &mut Sample) {
 
 // ---- gathering
 
-/// Every place of pictures of at most six macroblocks; sizes and places outside the limits; planes of other lengths.
+/// Every place of pictures of at most six macroblocks, and the right-hand pixels of every row; sizes and places outside
+/// the limits; planes of other lengths.
 fn gather(s: &mut Sample) {
     for kind in 0..3 {
         let mut planes = PLANES.map(|length| vec![0; length]);
@@ -386,6 +387,7 @@ fn gather(s: &mut Sample) {
                     let count = cols * rows;
                     gathered(s, &planes, [256 * count, 64 * count, 64 * count], [cols, rows, col, row]);
                 }
+                right_given(s, &planes, 256 * cols * rows, [cols, rows, row]);
             }
         }
         if kind > 0 {
@@ -396,6 +398,9 @@ fn gather(s: &mut Sample) {
             gathered(s, &planes, two, [side, 1, 0, 0]);
             gathered(s, &planes, two, [1, side, 0, 0]);
             gathered(s, &planes, two, [side, side, 0, 0]);
+            right_given(s, &planes, 512, [side, 2, 1]);
+            right_given(s, &planes, 512, [1, side, 1]);
+            right_given(s, &planes, 512, [1, 2, side]);
         }
         for place in [2, 3, 1024, 1 << 60, usize::MAX] {
             gathered(s, &planes, two, [2, 1, place, 0]);
@@ -409,6 +414,11 @@ fn gather(s: &mut Sample) {
             gathered(s, &planes, lengths, [1, 2, 0, 1]);
         }
         gathered(s, &planes, two, [1024, 1024, 1023, 1023]);
+        right_given(s, &planes, 512, [1024, 1024, 1023]);
+        for length in [0, 256, 511, 513, 1024] {
+            right_given(s, &planes, length, [1, 2, 1]);
+            right_given(s, &planes, length, [1, 2, 2]);
+        }
     }
 }
 
@@ -420,18 +430,32 @@ fn gathered(s: &mut Sample, planes: &[Vec<u8>; 3], lengths: [usize; 3], numbers:
     for number in numbers {
         input.extend((number as u64).to_le_bytes());
     }
+    let mut right = [0; 4];
+    s.random.bytes(&mut right);
+    input.extend(right);
     let [y, u, v] = [0, 1, 2].map(|k| &planes[k][..lengths[k]]);
     let [cols, rows, col, row] = numbers;
     let mut record = [FILL; 81];
-    let number = expected::gather(y, u, v, cols, rows, col, row, &mut record);
+    let number = expected::gather(y, u, v, cols, rows, col, row, &right, &mut record);
     s.record(12, &input, &join(&[&reply(number), &record]));
+}
+
+fn right_given(s: &mut Sample, planes: &[Vec<u8>; 3], length: usize, numbers: [usize; 3]) {
+    let mut input = (length as u16).to_le_bytes().to_vec();
+    for number in numbers {
+        input.extend((number as u64).to_le_bytes());
+    }
+    let [cols, rows, row] = numbers;
+    let mut out = [FILL; 4];
+    let number = expected::right_pixels(&planes[0][..length], cols, rows, row, &mut out);
+    s.record(17, &input, &join(&[&reply(number), &out]));
 }
 
 // ---- lengths
 
 /// Each slice of each function with lengths around the right one, the others right.
 fn wrong_lengths(s: &mut Sample) {
-    let right: [&[usize]; 12] = [
+    let right: [&[usize]; 13] = [
         &[2],
         &[16],
         &[16, 16],
@@ -443,7 +467,8 @@ fn wrong_lengths(s: &mut Sample) {
         &[8, 8, 64],
         &[8, 4, 16],
         &[3, 16, 81, 400, 384],
-        &[256, 64, 64, 81],
+        &[256, 64, 64, 4, 81],
+        &[512, 4],
     ];
     for (k, right) in right.into_iter().enumerate() {
         let function = k as u8 + 1;
@@ -462,17 +487,17 @@ fn wrong_lengths(s: &mut Sample) {
 }
 
 /// Whether a slice of this length alone is refused by 1, nothing being written: not an absent edge or absent sub-block
-/// modes, not a plane that blocks are added into, and not a plane that is gathered from, whose record is zeros then.
+/// modes, not a plane that blocks are added into, and not a plane that is read, where zeros are written then.
 fn refused_by_length(function: u8, slice: usize, n: usize) -> bool {
     match (function, slice) {
         (8 | 9, 0 | 1) | (11, 1) => n != 0,
-        (6, 1) | (12, 0..=2) => false,
+        (6, 1) | (12, 0..=2) | (13, 0) => false,
         _ => true,
     }
 }
 
 fn main() -> std::io::Result<()> {
-    let mut s = Sample { bytes: Vec::new(), counts: [0; 17], random: Random::new(6386) };
+    let mut s = Sample { bytes: Vec::new(), counts: [0; 18], random: Random::new(6386) };
     y1_factors(&mut s);
     dequant_block(&mut s);
     transform(&mut s, 3, expected::inverse_wht, 64);

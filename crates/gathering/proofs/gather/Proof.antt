@@ -3,7 +3,8 @@ use mathlib.Core.Path.{sym, _∙_}
 use native.Mathlib.Omega.{arith}
 use borrow.Author.Needs.{needs}
 use Rattle.gathering.specs.Answers.{gathered}
-use Rattle.gathering.proofs.Accepted.{place-says, sizes-say, placed}
+use Rattle.picture_limits.proofs.Accepted.{place-says, sizes-say}
+use Rattle.picture_limits.proofs.Bounds.{placed}
 use Rattle.gathering.proofs.gather.Statement.{statement}
 use Rattle.gathering.proofs.gather.Tie as tie
 

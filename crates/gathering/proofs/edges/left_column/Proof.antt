@@ -3,7 +3,8 @@ use native.Mathlib.Omega.{arith}
 use borrow.Author.Needs.{needs}
 use borrow.Author.Tests.{lt-ltb, le-ltb}
 use Rattle.rfc6386.specs.Picture.{leftOf}
-use Rattle.gathering.proofs.Bounds.{Left, left, column-room, column-drawn}
+use Rattle.picture_limits.proofs.Bounds.{Left, left}
+use Rattle.gathering.proofs.Copied.{column-room, column-drawn}
 use Rattle.gathering.proofs.edges.left_column.Statement.{statement}
 use Rattle.gathering.proofs.edges.left_column.Tie as tie
 

@@ -3,7 +3,8 @@ use native.Mathlib.Omega.{arith}
 use borrow.Author.Needs.{needs}
 use borrow.Author.Tests.{lt-ltb, le-ltb}
 use Rattle.rfc6386.specs.Picture.{aboveOf}
-use Rattle.gathering.proofs.Bounds.{Above, bounds, above, upper-fits, upper-copied}
+use Rattle.picture_limits.proofs.Bounds.{Above, bounds, above}
+use Rattle.gathering.proofs.Copied.{upper-fits, upper-copied}
 use Rattle.gathering.proofs.edges.row_above.Statement.{statement}
 use Rattle.gathering.proofs.edges.row_above.Tie as tie
 

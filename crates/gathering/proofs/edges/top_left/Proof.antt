@@ -3,7 +3,7 @@
 use native.Mathlib.Omega.{arith}
 use borrow.Author.Tests.{lt-ltb, le-ltb}
 use Rattle.rfc6386.specs.Picture.{topLeftOf}
-use Rattle.gathering.proofs.Bounds.{Above, Left, above, left}
+use Rattle.picture_limits.proofs.Bounds.{Above, Left, above, left}
 use Rattle.gathering.proofs.edges.top_left.Statement.{statement}
 use Rattle.gathering.proofs.edges.top_left.Tie as tie
 

@@ -1,5 +1,4 @@
 -- `gathering::record::beside` meets its contract: the record of what its calls give. Assumes nothing.
-use native.Mathlib.Omega.{arith}
 use borrow.Author.Needs.{needs}
 use Rattle.gathering.proofs.Joined.{record-is}
 use Rattle.gathering.proofs.record.beside.Statement.{statement}
@@ -7,11 +6,11 @@ use Rattle.gathering.proofs.record.beside.Tie as tie
 
 returns : tie.Need-returns
 returns c =
-    let v = c .before .before .before .before in
+    let v = c .before .before in
     let u = v .before .before .before in
     let y = u .before .before .before .before in
     let e = y .luma-edges .ensures in
-    record-is (e .0) (e .1) (u .chroma-edges .ensures) (v .chroma-edges2 .ensures) (c .before .both .ensures) (c .both2 .ensures)
+    record-is _ (e .0) (e .1) (u .chroma-edges .ensures) (v .chroma-edges2 .ensures)
 
 pub beside-spec : {M : Type 1} → statement M
 beside-spec =
@@ -20,7 +19,4 @@ beside-spec =
     (λ c κs. c .before .before .before .pre .0)
     (λ c κs. search needs)
     (λ c κs. search needs)
-    (λ c κs. tt)
-    (λ c. omega arith)
-    (λ c κs. tt)
     returns)

@@ -1,0 +1,2 @@
+-- What gathering over lent slices answers.
+pub mod Answer

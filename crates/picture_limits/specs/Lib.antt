@@ -1,0 +1,2 @@
+-- When a macroblock lies in its plane.
+pub mod Place

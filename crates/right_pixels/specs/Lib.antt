@@ -1,0 +1,2 @@
+-- The four pixels above right of the last column.
+pub mod Answers

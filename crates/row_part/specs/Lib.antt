@@ -1,0 +1,2 @@
+-- Where a row's part of a plane lies.
+pub mod Start

@@ -1,0 +1,3 @@
+-- A whole still.
+pub mod Picture
+pub mod Answers

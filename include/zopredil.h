@@ -1,6 +1,6 @@
 /* zopredil.h: the picture code of VP8 key frames (RFC 6386, sections 12 and 14) as a C library.
  *
- * Thirteen functions over numbers and slices. A slice is a pointer and a length (size_t), counted in elements and not
+ * Functions over numbers and slices. A slice is a pointer and a length (size_t), counted in elements and not
  * in bytes. The pointer of a slice of length 0 may be NULL. A slice that is written must not overlap another slice of
  * the same call. Nothing is kept between calls, nothing is allocated, and no function asks anything of its arguments
  * but that each pointer has as many elements behind it as its length says: a wrong value is refused by a number.
@@ -12,7 +12,7 @@
  *     2  a 4x4 block does not lie in its plane
  *     3  luma mode B where a 16x16 mode is wanted
  *     4  no sub-block modes where mode B wants them
- *     5  yac_qi + ydc_delta is outside signed 32 bits
+ *     5  a sum of quantiser indices is outside signed 32 bits
  *     6  a sub-block's window passes the end of the B work buffer (no call answers with it)
  *     7  the picture's size or the macroblock's place is outside its limits
  *     8  a byte is no mode's number, or a skip or mark byte is neither 0 nor 1
@@ -67,6 +67,22 @@ uint32_t zopredil_y1_factors(int32_t yac_qi, int32_t ydc_delta, int16_t *out, si
 /* Dequantises a 4x4 block where it stands (14.1): the first coefficient times dc, the other fifteen times ac, each
  * product modulo 65,536 read as signed 16 bits. coeffs has 16 numbers. Replies: 1, nothing written. */
 uint32_t zopredil_dequant_block(int16_t *coeffs, size_t coeffs_len, int16_t dc, int16_t ac);
+
+/* The six factors of a macroblock, and its coefficients dequantised by them where they stand (9.6, 14.1 and 20.4). Each
+ * index is yac_qi plus a delta, clamped to 0..127 when its table is read; Y1 AC has no delta. factors has 6 numbers:
+ *
+ *     0  Y1 DC   yac_qi + ydc     the DC table's         1  Y1 AC   yac_qi           the AC table's
+ *     2  Y2 DC   yac_qi + y2dc    twice the DC table's   3  Y2 AC   yac_qi + y2ac    155/100 of the AC table's, rounded
+ *                                                                                    down, at least 8
+ *     4  UV DC   yac_qi + uvdc    the DC table's, at     5  UV AC   yac_qi + uvac    the AC table's
+ *                                 most 132
+ *
+ * coeffs has 400 numbers: Y2 16, Y 256, U 64, V 64. The first coefficient of each block of 16 is multiplied by the DC
+ * factor, the others by the AC factor, each product modulo 65,536 read as signed 16 bits. Replies: 1 for factors, nothing
+ * written; 5 for any of the five sums; 1 for coeffs; after 5 and 1 for coeffs the factors are zeros and coeffs is as
+ * found. */
+uint32_t zopredil_dequantise(int32_t yac_qi, int32_t ydc, int32_t y2dc, int32_t y2ac, int32_t uvdc, int32_t uvac,
+                             int16_t *coeffs, size_t coeffs_len, int16_t *factors, size_t factors_len);
 
 /* The inverse Walsh-Hadamard transform of a Y2 block (14.3), whose sixteen answers are the DC coefficients of the
  * macroblock's sixteen luma blocks. in and out have 16 numbers in raster order. Replies: 1, nothing written. */

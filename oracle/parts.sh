@@ -2,7 +2,7 @@
 # repository's root. What they make stands in target/.
 
 # The files of the Rust that are used.
-rust_files='intra_predict.rs inverse_transform.rs macroblock.rs reconstruct.rs'
+rust_files='dequant.rs intra_predict.rs inverse_transform.rs macroblock.rs reconstruct.rs'
 
 # take_rust FOLDER: copies the Rust's files to target/rust-src and says which they are. Copies and not links, so that no
 # tool that follows the paths of a source file can write to the folder that was given.

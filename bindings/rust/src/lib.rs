@@ -14,8 +14,8 @@
 //!
 //! [`gather`] takes the neighbours of a macroblock from the finished planes of a picture, with the four pixels that
 //! [`right_pixels`] gives at the picture's right end, and [`macroblock`] draws it. The steps between are here too:
-//! [`y1_factors`] and [`dequant_block`] (14.1), [`inverse_wht`] (14.3), [`inverse_dct`] (14.4), [`add_residue`] (14.5),
-//! [`predict_y16x16`], [`predict_uv8x8`] and [`predict_b4x4`] (12.2 and 12.3).
+//! [`dequantise`], [`y1_factors`] and [`dequant_block`] (14.1), [`inverse_wht`] (14.3), [`inverse_dct`] (14.4),
+//! [`add_residue`] (14.5), [`predict_y16x16`], [`predict_uv8x8`] and [`predict_b4x4`] (12.2 and 12.3).
 //!
 //! A call that can be refused answers with a [`Reply`]. Where the types rule every refusal out, the function returns its
 //! result as it is. [`raw`] has the C functions themselves.
@@ -34,6 +34,6 @@ pub use neighbors::Neighbors;
 pub use predict::{predict_b4x4, predict_uv8x8, predict_y16x16};
 pub use reply::Reply;
 pub use transform::{
-    add_residue, dequant_block, inverse_dct, inverse_dct_add_into, inverse_wht, inverse_wht_dc_only, y1_factors,
-    Y1DequantFactors,
+    add_residue, dequant_block, dequantise, inverse_dct, inverse_dct_add_into, inverse_wht, inverse_wht_dc_only,
+    y1_factors, MbDequantFactors, QuantIndices, Y1DequantFactors,
 };

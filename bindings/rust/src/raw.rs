@@ -10,6 +10,13 @@ extern "C" {
     /// Dequantises a block of 16 where it stands.
     pub fn zopredil_dequant_block(coeffs: *mut i16, coeffs_len: usize, dc: i16, ac: i16) -> u32;
 
+    /// The six factors of a macroblock, and its 400 coefficients dequantised where they stand; `factors` has 6 numbers.
+    pub fn zopredil_dequantise(
+        yac_qi: i32, ydc: i32, y2dc: i32, y2ac: i32, uvdc: i32, uvac: i32,
+        coeffs: *mut i16, coeffs_len: usize,
+        factors: *mut i16, factors_len: usize,
+    ) -> u32;
+
     /// The inverse WHT of 16 numbers.
     pub fn zopredil_inverse_wht(input: *const i16, input_len: usize, out: *mut i16, out_len: usize) -> u32;
 

@@ -42,6 +42,71 @@ pub fn dequant_block(coeffs: &mut [i16; 16], dc: i16, ac: i16) {
     done(unsafe { raw::zopredil_dequant_block(coeffs.as_mut_ptr(), coeffs.len(), dc, ac) });
 }
 
+/// The base index of a macroblock and its five deltas (9.6). In a bitstream the index is 0 to 127 and a delta -15 to 15;
+/// other numbers are taken as they are.
+#[derive(Debug, Clone, Copy, Default, PartialEq, Eq, Hash)]
+pub struct QuantIndices {
+    /// The base index, which is that of Y1 AC.
+    pub yac_qi: i32,
+    /// What Y1 DC adds to it.
+    pub ydc: i32,
+    /// What Y2 DC adds to it.
+    pub y2dc: i32,
+    /// What Y2 AC adds to it.
+    pub y2ac: i32,
+    /// What chroma DC adds to it.
+    pub uvdc: i32,
+    /// What chroma AC adds to it.
+    pub uvac: i32,
+}
+
+/// The six factors of a macroblock.
+#[derive(Debug, Clone, Copy, PartialEq, Eq, Hash)]
+pub struct MbDequantFactors {
+    /// The DC table's, 4 to 157.
+    pub y1_dc: i16,
+    /// The AC table's, 4 to 284.
+    pub y1_ac: i16,
+    /// Twice the DC table's, 8 to 314.
+    pub y2_dc: i16,
+    /// 155/100 of the AC table's, rounded down and at least 8: 8 to 440.
+    pub y2_ac: i16,
+    /// The DC table's and at most 132, 4 to 132.
+    pub uv_dc: i16,
+    /// The AC table's, 4 to 284.
+    pub uv_ac: i16,
+}
+
+/// The six factors of a macroblock, and its coefficients dequantised by them where they stand (14.1): Y2 16, Y 256, U 64,
+/// V 64, the first of each block of 16 times the DC factor and the others times the AC factor, each product cut to signed
+/// 16 bits. Each index is `yac_qi` plus its delta, clamped to 0..=127. Refused with [`Reply::IndexSum`] where any of the
+/// five sums is outside signed 32 bits; the coefficients are then as they were.
+///
+/// ```
+/// use zopredil::{dequantise, QuantIndices, Reply};
+///
+/// let mut coeffs = [1; 400];
+/// let factors = dequantise(QuantIndices { yac_qi: 127, ydc: -127, ..Default::default() }, &mut coeffs)?;
+/// assert_eq!((factors.y1_dc, factors.y1_ac), (4, 284));
+/// assert_eq!((factors.y2_dc, factors.y2_ac), (314, 440));
+/// assert_eq!((factors.uv_dc, factors.uv_ac), (132, 284));
+/// assert_eq!((coeffs[..2].to_vec(), coeffs[16..18].to_vec(), coeffs[272]), (vec![314, 440], vec![4, 284], 132));
+/// let far = QuantIndices { yac_qi: i32::MAX, uvac: 1, ..Default::default() };
+/// assert_eq!(dequantise(far, &mut coeffs), Err(Reply::IndexSum));
+/// # Ok::<(), Reply>(())
+/// ```
+pub fn dequantise(indices: QuantIndices, coeffs: &mut [i16; 400]) -> Result<MbDequantFactors, Reply> {
+    let QuantIndices { yac_qi, ydc, y2dc, y2ac, uvdc, uvac } = indices;
+    let mut factors = [0; 6];
+    let (at, len) = (coeffs.as_mut_ptr(), coeffs.len());
+    // SAFETY: the pointers and the lengths are those of two arrays, each lent alone.
+    answer(unsafe {
+        raw::zopredil_dequantise(yac_qi, ydc, y2dc, y2ac, uvdc, uvac, at, len, factors.as_mut_ptr(), factors.len())
+    })?;
+    let [y1_dc, y1_ac, y2_dc, y2_ac, uv_dc, uv_ac] = factors;
+    Ok(MbDequantFactors { y1_dc, y1_ac, y2_dc, y2_ac, uv_dc, uv_ac })
+}
+
 /// The inverse Walsh-Hadamard transform of a Y2 block (14.3): the DC coefficients of the sixteen luma blocks.
 ///
 /// ```

@@ -18,6 +18,40 @@ fn index_sums_outside_32_bits() {
     assert_eq!(out, [0, 0]);
 }
 
+/// Dequantises a macroblock through the C interface: the reply, and what stands in both slices afterwards.
+fn scale(indices: [i32; 6], coeffs: usize, factors: usize) -> (u32, Vec<i16>, Vec<i16>) {
+    let (mut c, mut f) = (vec![3; coeffs], vec![-1; factors]);
+    let [yac_qi, ydc, y2dc, y2ac, uvdc, uvac] = indices;
+    let (at, out) = (c.as_mut_ptr(), f.as_mut_ptr());
+    let reply = unsafe { zopredil_dequantise(yac_qi, ydc, y2dc, y2ac, uvdc, uvac, at, coeffs, out, factors) };
+    (reply, c, f)
+}
+
+#[test]
+fn index_sums_of_a_macroblock() {
+    for delta in 1..6 {
+        for (base, by) in [(i32::MAX, 1), (i32::MIN, -1), (1, i32::MAX), (-1, i32::MIN)] {
+            let mut indices = [base, 0, 0, 0, 0, 0];
+            indices[delta] = by;
+            assert_eq!(scale(indices, 400, 6), (5, vec![3; 400], vec![0; 6]));
+            assert_eq!(scale(indices, 399, 6), (5, vec![3; 399], vec![0; 6])); // 5 comes before 1 for coeffs
+            assert_eq!(scale(indices, 400, 5), (1, vec![3; 400], vec![-1; 5])); // 1 for factors before 5
+        }
+    }
+    let ends = QuantIndices { yac_qi: i32::MAX, ydc: i32::MIN, ..Default::default() };
+    assert!(dequantise(ends, &mut [1; 400]).is_ok());
+}
+
+#[test]
+fn lengths_of_a_macroblocks_coefficients_and_factors() {
+    for coeffs in [0, 1, 16, 384, 399, 401] {
+        assert_eq!(scale([0; 6], coeffs, 6), (1, vec![3; coeffs], vec![0; 6]));
+    }
+    for factors in [0, 1, 2, 5, 7, 400] {
+        assert_eq!(scale([0; 6], 400, factors), (1, vec![3; 400], vec![-1; factors]));
+    }
+}
+
 #[test]
 fn blocks_outside_their_plane() {
     let block = [1000; 16];

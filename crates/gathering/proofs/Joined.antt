@@ -4,7 +4,7 @@ use mathlib.Core.Path.{_≡_}
 use mathlib.Core.List.{List}
 use Rattle.macroblock.specs.declared.neighbors.MbNeighbors.{MbNeighbors}
 use Rattle.rfc6386.specs.Picture.{neighborsOf, aboveRightOf, aboveThere, leftThere, topLeftThere, aboveRightThere}
-use Rattle.gathering.specs.Edges.{Edges}
+use Rattle.gathering.specs.Steps.{Edges}
 
 module _ {y u v : List ℕ} {w r c : ℕ} {p q s : ℕ} {ya yl ar ua ul va vl : List ℕ} (right : List ℕ) where
   pub record-is : Edges 16 y w r c p ya yl → ar ≡ aboveRightOf y w r c right → Edges 8 u w r c q ua ul → Edges 8 v w r c s va vl

@@ -1,3 +1,3 @@
--- What gathering answers.
-pub mod Edges
+-- What gathering answers, and a name for its steps.
+pub mod Steps
 pub mod Answers

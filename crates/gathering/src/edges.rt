@@ -7,7 +7,7 @@ ghost use lib.ListN.{length, take, getD, replicate};
 ghost use Rattle.lists.specs.Lists.{table};
 ghost use Rattle.rfc6386.specs.Picture.{aboveOf, leftOf, topLeftOf, aboveRightOf};
 ghost use Rattle.picture_limits.specs.Place.{Placed};
-ghost use Rattle.gathering.specs.Edges.{Edges};
+ghost use Rattle.gathering.specs.Steps.{Edges};
 use macroblock::MbNeighbors;
 use row_part::row_part;
 

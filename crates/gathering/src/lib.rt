@@ -7,9 +7,9 @@
 //        column   |                     |
 //
 // In Y the row above is row 16 row - 1 of the plane and the left column is column 16 col - 1; in U and V 8 stands for 16.
-// An edge outside the picture is absent and its bytes are 0; any other is the finished pixels beside the macroblock. Two
-// pixels outside are there below the first row: the top-left pixel of the first column is 129, in each plane, and the four
-// above right of the last column are those that the caller gives.
+// An edge outside the picture is absent and its bytes are 0; any other is the finished pixels beside the macroblock. But
+// below the first row two edges outside are there: the top-left pixel of the first column is 129, in each plane, and the
+// four above right of the last column are those that the caller gives.
 ghost use mathlib.Core.Path.{_≡_};
 ghost use Rattle.gathering.specs.Answers.{gathered, refused};
 use crate::record::beside;

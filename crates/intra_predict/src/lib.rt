@@ -18,6 +18,7 @@ pub use intra_edges::predict_y16x16_h;
 pub use intra_edges::predict_y16x16_tm;
 pub use intra_edges::predict_y16x16_v;
 pub use intra_subblock::predict_b4x4;
+pub use intra_subblock::predict_b4x4_into;
 
 // A 16x16 prediction: reply 0 with the pixels, or 3 with zero pixels where the mode is B.
 pub struct LumaPrediction {

@@ -26,21 +26,60 @@ ghost use Rattle.lists.specs.Lists.{rows};
 ghost use Rattle.rfc6386.specs.Edges.{tmPixel};
 ghost use Rattle.rfc6386.specs.Subblock.{edgeE, edgeA, subDc, subVe, subHe, subLd, subRd, subVr, subVl, subHd, subHu, predictB};
 
+// The sixteen pixels, stored by each mode where they are wanted.
+pub fn predict_b4x4_into(out: &mut [u8; 16], mode: IntraBmode, above: [u8; 8], left: [u8; 4], p: u8)
+    ensures { λ _. ⌜ now (out .exit) ≡ predictB mode above left p ⌝ }
+{
+    match mode {
+        IntraBmode::Dc => {
+            let px = dc(above, left);
+            *out = px;
+        }
+        IntraBmode::Tm => {
+            let px = tm(above, left, p);
+            *out = px;
+        }
+        IntraBmode::Ve => {
+            let px = ve(above, p);
+            *out = px;
+        }
+        IntraBmode::He => {
+            let px = he(left, p);
+            *out = px;
+        }
+        IntraBmode::Ld => {
+            let px = ld(above);
+            *out = px;
+        }
+        IntraBmode::Rd => {
+            let px = rd(edge_e(above, left, p));
+            *out = px;
+        }
+        IntraBmode::Vr => {
+            let px = vr(edge_e(above, left, p));
+            *out = px;
+        }
+        IntraBmode::Vl => {
+            let px = vl(above);
+            *out = px;
+        }
+        IntraBmode::Hd => {
+            let px = hd(edge_e(above, left, p));
+            *out = px;
+        }
+        IntraBmode::Hu => {
+            let px = hu(left);
+            *out = px;
+        }
+    }
+}
+
 pub fn predict_b4x4(mode: IntraBmode, above: [u8; 8], left: [u8; 4], p: u8) -> [u8; 16]
     ensures { λ r. ⌜ r ≡ predictB mode above left p ⌝ }
 {
-    match mode {
-        IntraBmode::Dc => dc(above, left),
-        IntraBmode::Tm => tm(above, left, p),
-        IntraBmode::Ve => ve(above, p),
-        IntraBmode::He => he(left, p),
-        IntraBmode::Ld => ld(above),
-        IntraBmode::Rd => rd(edge_e(above, left, p)),
-        IntraBmode::Vr => vr(edge_e(above, left, p)),
-        IntraBmode::Vl => vl(above),
-        IntraBmode::Hd => hd(edge_e(above, left, p)),
-        IntraBmode::Hu => hu(left),
-    }
+    let mut out = [0u8; 16];
+    predict_b4x4_into(&mut out, mode, above, left, p);
+    out
 }
 
 // The edge E: L3 L2 L1 L0 P A0 A1 A2 A3.

@@ -37,7 +37,7 @@ fn ac_factor(q: i32) -> i16
 }
 
 // Whether the number is within signed 32 bits.
-fn signed32(z: i64) -> bool
+pub fn signed32(z: i64) -> bool
     ensures { λ r. ⌜ r ≡ signed32 z ⌝ }
 {
     if z < -2147483648 {
@@ -77,7 +77,7 @@ impl Y1DequantFactors {
 }
 
 // A coefficient by its factor, kept in 16 bits.
-fn dequant(x: i16, factor: i16) -> i16
+pub fn dequant(x: i16, factor: i16) -> i16
     ensures { λ r. ⌜ r ≡ dequant x factor ⌝ }
 {
     whole::narrow(whole::widen(x) * whole::widen(factor))

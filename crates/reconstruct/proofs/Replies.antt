@@ -21,7 +21,7 @@ use Rattle.macroblock.specs.declared.modes.MbModes.{MbModes}
 use Rattle.macroblock.specs.declared.neighbors.MbNeighbors.{MbNeighbors}
 use Rattle.rfc6386.specs.Edges.{isB}
 use Rattle.rfc6386.specs.Walk.{cornerOf}
-use Rattle.work_buffer.specs.Reach.{passesAt, orPasses, passes}
+use Rattle.sub_blocks.specs.Reach.{passesAt, orPasses, passes}
 use Rattle.reconstruct.specs.Answers.{refusal, wholeOf, partsOf, nonB, walkB}
 use Rattle.reconstruct.specs.declared.ReconstructedMb.{ReconstructedMb}
 

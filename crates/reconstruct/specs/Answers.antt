@@ -14,7 +14,7 @@ use Rattle.macroblock.specs.declared.modes.MbModes.{MbModes}
 use Rattle.macroblock.specs.declared.neighbors.MbNeighbors.{MbNeighbors}
 use Rattle.rfc6386.specs.Edges.{isB}
 use Rattle.rfc6386.specs.Walk.{yWhole, yParts, uPlane, vPlane}
-use Rattle.work_buffer.specs.Reach.{passes}
+use Rattle.sub_blocks.specs.Reach.{passes}
 use Rattle.reconstruct.specs.declared.ReconstructedMb.{ReconstructedMb}
 
 -- the number, and zero pixels

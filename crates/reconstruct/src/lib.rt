@@ -99,7 +99,7 @@ fn parts(
 ) -> ReconstructedMb
     ensures { λ r. ⌜ r ≡ partsOf «sub_modes» uv skip neighbors (now (coeffs .entry)) ⌝ }
 {
-    let y = work_buffer::luma_parts(sub_modes, skip, neighbors, coeffs);
+    let y = sub_blocks::luma_parts(sub_modes, skip, neighbors, coeffs);
     let u = planes::u_plane(uv, skip, neighbors, coeffs, 256);
     let v = planes::v_plane(uv, skip, neighbors, coeffs, 320);
     ReconstructedMb {
@@ -130,7 +130,7 @@ pub fn decode_keyframe_mb_bpred(
             if coeffs.len() != 384 {
                 return refused(reply::WRONG_LENGTH);
             }
-            if work_buffer::window_passes(work_buffer::LENGTH) {
+            if sub_blocks::window_passes(work_buffer::LENGTH) {
                 return refused(reply::PAST_BUFFER);
             }
             parts(sub_modes, uv, skip, neighbors, coeffs)

@@ -1,5 +1,6 @@
 -- The laws about what RFC 6386 says.
 --     Quantiser    the two tables never fall; each index gives a factor of its table; a block dequantised, coefficient by coefficient
+--     MbFactors    the range of each factor of a macroblock; its blocks dequantised, coefficient by coefficient
 --     Wht          no sum of the inverse WHT leaves 2^20; the DC-only form is the whole transform of a block without AC
 --     DctPass      one pass of the inverse DCT: nothing wraps, every number on the way is one of 32 bits, how far it grows
 --     DctRange     a block with every coefficient from -8191 to 8191: nothing wraps or narrows, 32 or 16 bits between the passes
@@ -18,6 +19,7 @@
 --     Demand3Planes  demand 3 of each pixel of a plane, and of a sub-block
 --     Pictures     the decay pictures that we already know, as one computed table
 pub mod Quantiser
+pub mod MbFactors
 pub mod Wht
 pub mod DctPass
 pub mod DctRange

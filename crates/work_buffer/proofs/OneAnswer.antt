@@ -1,12 +1,12 @@
 -- Each promise of `work_buffer` admits one answer only. Assumes nothing.
 use Rattle.lists.proofs.Answer.{OneAnswer, same}
-use Rattle.work_buffer.proofs.walk.luma_parts.Reads as luma-parts
-use Rattle.work_buffer.proofs.walk.luma_parts.Kinds as luma-parts-k
-use Rattle.work_buffer.proofs.window.window_passes.Reads as window-passes
-use Rattle.work_buffer.proofs.window.window_passes.Kinds as window-passes-k
+use Rattle.work_buffer.proofs.border.start.Reads as start
+use Rattle.work_buffer.proofs.border.start.Kinds as start-k
+use Rattle.work_buffer.proofs.luma.luma_of.Reads as luma-of
+use Rattle.work_buffer.proofs.luma.luma_of.Kinds as luma-of-k
 
-pub luma-parts-one : OneAnswer 1 luma-parts-k.ps luma-parts-k.r luma-parts.Post
-luma-parts-one κs a x y s t = same
+pub start-one : OneAnswer 0 start-k.ps start-k.r start.Post
+start-one κs a x y s t = same
 
-pub window-passes-one : OneAnswer 0 window-passes-k.ps window-passes-k.r window-passes.Post
-window-passes-one κs a x y s t = same
+pub luma-of-one : OneAnswer 1 luma-of-k.ps luma-of-k.r luma-of.Post
+luma-of-one κs a x y s t = same

@@ -12,7 +12,7 @@
 //        row 16   l . . . . . . . . . . . . . . . . - - - -      - is never read
 ghost use mathlib.Core.Path.{_≡_};
 ghost use Prim.Native.Nat.{_+_, _*_, _<_, _≤_};
-ghost use lib.ListN.{length};
+ghost use lib.ListN.{length, set};
 ghost use Rattle.rfc6386.specs.Edges.{edgeOr};
 ghost use Rattle.rfc6386.specs.Walk.{laid, blank, copiedDown, bordered, startOf};
 use macroblock::MbNeighbors;
@@ -35,24 +35,37 @@ fn blank() -> [u8; LENGTH]
     [0u8; LENGTH]
 }
 
+// Four rows on, and where above-right stands in row 4.
+const FOUR_ROWS: usize = 4 * MbNeighbors::STRIDE;
+
+const BELOW: usize = 17 + FOUR_ROWS;
+
 // Above-right again, in rows 4, 8 and 12.
-fn copy_down(b: &mut [u8; LENGTH], right: [u8; 4])
-    ensures { λ _. ⌜ now (b .exit) ≡ copiedDown right (now (b .entry)) ⌝ }
+fn copy_down(b: &mut [u8; LENGTH], right: &[u8; 4])
+    ensures { λ _. ⌜ now (b .exit) ≡ copiedDown (now (right .entry)) (now (b .entry)) ⌝ }
 {
-    lay(b, 17 + 4 * MbNeighbors::STRIDE, 1, &right, 4);
-    lay(b, 17 + 8 * MbNeighbors::STRIDE, 1, &right, 4);
-    lay(b, 17 + 12 * MbNeighbors::STRIDE, 1, &right, 4);
+    for i in 0..3 {
+        lay(b, BELOW + FOUR_ROWS * i, 1, right, 4);
+    }
+}
+
+// Row 0.
+fn top_row(p: u8, above: [u8; 16], right: &[u8; 4]) -> [u8; LENGTH]
+    ensures { λ r. ⌜ r ≡ laid 4 17 1 (now (right .entry)) (laid 16 1 1 above (set blank 0 p)) ⌝ }
+{
+    let mut b = blank();
+    b[0] = p;
+    lay(&mut b, 1, 1, &above, 16);
+    lay(&mut b, 17, 1, right, 4);
+    b
 }
 
 fn bordered(p: u8, above: [u8; 16], left: [u8; 16], right: [u8; 4]) -> [u8; LENGTH]
     ensures { λ r. ⌜ r ≡ bordered p above left right ⌝ }
 {
-    let mut b = blank();
-    b[0] = p;
-    lay(&mut b, 1, 1, &above, 16);
-    lay(&mut b, 17, 1, &right, 4);
+    let mut b = top_row(p, above, &right);
     lay(&mut b, MbNeighbors::STRIDE, MbNeighbors::STRIDE, &left, 16);
-    copy_down(&mut b, right);
+    copy_down(&mut b, &right);
     b
 }
 
@@ -68,7 +81,8 @@ fn right_or(other: u8, pixels: [u8; 4], there: bool) -> [u8; 4]
     if there { pixels } else { [other; 4] }
 }
 
-pub(crate) fn start(neighbors: MbNeighbors) -> [u8; LENGTH]
+// The border pixels in their places; what stands for an absent one is 127 above and at the top-left, 129 to the left.
+pub fn start(neighbors: MbNeighbors) -> [u8; LENGTH]
     ensures { λ r. ⌜ r ≡ startOf neighbors ⌝ }
 {
     let above = neighbors.y_above;

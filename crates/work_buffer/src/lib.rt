@@ -1,12 +1,10 @@
-// The luma of a macroblock in mode B (RFC 6386, 12.3): its sixteen sub-blocks in raster order over a work buffer that
-// begins with the macroblock's borders, each predicted from the pixels finished before it.
+// The buffer that the luma of a macroblock in mode B is drawn in (RFC 6386, 12.3): the pixels of the macroblock beside those
+// of its neighbours that its sub-blocks are predicted from. `sub_blocks` draws in it.
 //     border    the buffer as the neighbours leave it
-//     window    what a sub-block reads of the buffer and writes into it
-//     walk      the sixteen sub-blocks, and the luma read out
+//     luma      the macroblock read out of it
 mod border;
-mod walk;
-mod window;
+mod luma;
 
 pub use border::LENGTH;
-pub use walk::luma_parts;
-pub use window::window_passes;
+pub use border::start;
+pub use luma::luma_of;

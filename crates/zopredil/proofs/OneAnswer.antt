@@ -1,10 +1,16 @@
 -- Each promise of the C interface admits one answer only, and leaves one thing only in what was lent. Assumes nothing.
-use Rattle.lists.proofs.Answer.{OneAnswerIn}
+use mathlib.Core.Path.{ap}
+use mathlib.Core.List.{List}
+use Prim.Native.Nat.{ℕ}
+use lib.IntN.{ℤ}
+use Rattle.lists.proofs.Answer.{OneAnswerIn, same}
 use Rattle.slices.proofs.Pairs.{same-pair}
 use Rattle.zopredil.proofs.zopredil_y1_factors.Reads as y1-factors
 use Rattle.zopredil.proofs.zopredil_y1_factors.Kinds as y1-factors-k
 use Rattle.zopredil.proofs.zopredil_dequant_block.Reads as dequant-block
 use Rattle.zopredil.proofs.zopredil_dequant_block.Kinds as dequant-block-k
+use Rattle.zopredil.proofs.zopredil_dequantise.Reads as dequantise
+use Rattle.zopredil.proofs.zopredil_dequantise.Kinds as dequantise-k
 use Rattle.zopredil.proofs.zopredil_inverse_wht.Reads as inverse-wht
 use Rattle.zopredil.proofs.zopredil_inverse_wht.Kinds as inverse-wht-k
 use Rattle.zopredil.proofs.zopredil_inverse_wht_dc_only.Reads as inverse-wht-dc-only
@@ -23,6 +29,10 @@ use Rattle.zopredil.proofs.zopredil_predict_b4x4.Reads as predict-b4x4
 use Rattle.zopredil.proofs.zopredil_predict_b4x4.Kinds as predict-b4x4-k
 use Rattle.zopredil.proofs.zopredil_macroblock.Reads as macroblock
 use Rattle.zopredil.proofs.zopredil_macroblock.Kinds as macroblock-k
+use Rattle.zopredil.proofs.zopredil_gather.Reads as gather
+use Rattle.zopredil.proofs.zopredil_gather.Kinds as gather-k
+use Rattle.zopredil.proofs.zopredil_right_pixels.Reads as right-pixels
+use Rattle.zopredil.proofs.zopredil_right_pixels.Kinds as right-pixels-k
 
 pub y1-factors-one : OneAnswerIn 1 y1-factors-k.ps y1-factors-k.r y1-factors.Post (λ κs s. s .1 .1 .0 .now)
 y1-factors-one κs a x y s t = same-pair
@@ -56,3 +66,15 @@ predict-b4x4-one κs a x y s t = same-pair
 
 pub macroblock-one : OneAnswerIn 5 macroblock-k.ps macroblock-k.r macroblock.Post (λ κs s. s .1 .1 .1 .1 .0 .now)
 macroblock-one κs a x y s t = same-pair
+
+pub gather-one : OneAnswerIn 5 gather-k.ps gather-k.r gather.Post (λ κs s. s .1 .1 .1 .1 .1 .1 .1 .1 .0 .now)
+gather-one κs a x y s t = same-pair
+
+pub right-pixels-one : OneAnswerIn 2 right-pixels-k.ps right-pixels-k.r right-pixels.Post (λ κs s. s .1 .1 .1 .1 .0 .now)
+right-pixels-one κs a x y s t = same-pair
+
+pub dequantise-one : OneAnswerIn 2 dequantise-k.ps dequantise-k.r dequantise.Post
+    {A = List ℤ × List ℤ} (λ κs s. (s .1 .1 .1 .1 .1 .1 .0 .now, s .1 .1 .1 .1 .1 .1 .1 .0 .now))
+dequantise-one κs a x y s t p q =
+    let e = same p q in
+    (ap (λ (w : ℕ × List ℤ × List ℤ). w .0) e, ap (λ (w : ℕ × List ℤ × List ℤ). (w .1, w .2)) e)

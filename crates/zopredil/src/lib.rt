@@ -5,6 +5,9 @@ ghost use Rattle.slices.specs.Copies.{_beside_};
 ghost use Rattle.transform_slices.specs.Answers.{factorsAnswer, dequantAnswer, whtAnswer, whtDcAnswer, dctAnswer, addIntoAnswer, residueAnswer};
 ghost use Rattle.predict_slices.specs.Answers.{lumaAnswer, chromaAnswer, subBlockAnswer};
 ghost use Rattle.macroblock_slices.specs.Answers.{mbAnswer};
+ghost use Rattle.gather_bytes.specs.Answer.{gatherAnswer};
+ghost use Rattle.right_pixels.specs.Answers.{rightAnswer};
+ghost use Rattle.mb_quantiser.specs.Answers.{slicesAnswer};
 
 #[no_mangle]
 pub extern "C" fn zopredil_y1_factors(yac_qi: i32, ydc_delta: i32, out: &mut [i16]) -> u32
@@ -18,6 +21,23 @@ pub extern "C" fn zopredil_dequant_block(coeffs: &mut [i16], dc: i16, ac: i16) -
     ensures { λ r. ⌜ (r beside now (coeffs .exit)) ≡ dequantAnswer (now (coeffs .entry)) dc ac ⌝ }
 {
     transform_slices::dequant_block(coeffs, dc, ac)
+}
+
+#[no_mangle]
+pub extern "C" fn zopredil_dequantise(
+    yac_qi: i32,
+    ydc: i32,
+    y2dc: i32,
+    y2ac: i32,
+    uvdc: i32,
+    uvac: i32,
+    coeffs: &mut [i16],
+    factors: &mut [i16],
+) -> u32
+    ensures { λ r. ⌜ (r, now (coeffs .exit), now (factors .exit))
+        ≡ slicesAnswer «yac_qi» ydc y2dc y2ac uvdc uvac (now (coeffs .entry)) (now (factors .entry)) ⌝ }
+{
+    mb_quantiser::dequantise_slices(yac_qi, ydc, y2dc, y2ac, uvdc, uvac, coeffs, factors)
 }
 
 #[no_mangle]
@@ -112,4 +132,35 @@ pub extern "C" fn zopredil_macroblock(
         ≡ mbAnswer (now (modes .entry)) (now («sub_modes» .entry)) (now (edges .entry)) (now (coeffs .entry)) (now (out .entry)) ⌝ }
 {
     macroblock_slices::macroblock(modes, sub_modes, edges, coeffs, out)
+}
+
+#[no_mangle]
+pub extern "C" fn zopredil_gather(
+    y: &[u8],
+    u: &[u8],
+    v: &[u8],
+    cols: usize,
+    rows: usize,
+    col: usize,
+    row: usize,
+    right: &[u8],
+    edges: &mut [u8],
+) -> u32
+    ensures { λ r. ⌜ (r beside now (edges .exit))
+        ≡ gatherAnswer (now (y .entry)) (now (u .entry)) (now (v .entry)) cols rows col row (now (right .entry)) (now (edges .entry)) ⌝ }
+{
+    gather_bytes::gather_bytes(y, u, v, cols, rows, col, row, right, edges)
+}
+
+#[no_mangle]
+pub extern "C" fn zopredil_right_pixels(
+    y: &[u8],
+    cols: usize,
+    rows: usize,
+    row: usize,
+    out: &mut [u8],
+) -> u32
+    ensures { λ r. ⌜ (r beside now (out .exit)) ≡ rightAnswer (now (y .entry)) cols rows row (now (out .entry)) ⌝ }
+{
+    right_pixels::right_pixels_into(y, cols, rows, row, out)
 }

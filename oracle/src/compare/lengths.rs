@@ -3,6 +3,7 @@
 
 use crate::library;
 use crate::tally::{Pair, Run, Tally};
+use crate::transforms::Dequantised;
 use judge::expected;
 use judge::random::Random;
 
@@ -24,6 +25,7 @@ pub fn wrong_lengths(run: &mut Run) {
     r.bytes(&mut bytes);
     r.shorts(&mut numbers);
     blocks(&numbers, &bytes, run);
+    factors(&numbers, run);
     predictions(&bytes, run);
     macroblocks(&numbers, &bytes, run);
 }
@@ -56,6 +58,21 @@ fn blocks(numbers: &[i16; 512], bytes: &[u8; 512], run: &mut Run) {
                 |plane| expected::inverse_dct_add_into(start, plane, 4, 0, 0),
             );
             tally.count(equal, || format!("inverse_dct_add_into {n} {m}"));
+        }
+    }
+    tally.end(run);
+}
+
+/// Both slices of `dequantise`, with sums that are right and with one that is refused.
+fn factors(numbers: &[i16; 512], run: &mut Run) {
+    let mut tally = Tally::new("dequantise.lengths");
+    let mut both = Dequantised::new();
+    for n in around(400) {
+        for m in around(6) {
+            for (q, deltas) in [(0, [0; 5]), (i32::MAX, [0, 0, 0, 0, 1])] {
+                let equal = both.equal(q, deltas, &numbers[..n], m);
+                tally.count(equal, || format!("yac_qi {q} coefficients {n} factors {m}"));
+            }
         }
     }
     tally.end(run);

@@ -1,4 +1,4 @@
-//! The twelve functions of the library, called through the C interface with slices of any length. An empty slice is
+//! The thirteen functions of the library, called through the C interface with slices of any length. An empty slice is
 //! handed over as a null pointer.
 
 use std::ptr;
@@ -20,7 +20,7 @@ fn start_mut<T>(lent: &mut [T]) -> *mut T {
     }
 }
 
-// SAFETY, for every call: a pointer and its length are those of a slice, and the slice that is written is lent alone.
+// SAFETY, for every call: a pointer and its length are those of a slice, and a slice that is written is lent alone.
 
 pub fn y1_factors(yac_qi: i32, ydc_delta: i32, out: &mut [i16]) -> u32 {
     unsafe { raw::zopredil_y1_factors(yac_qi, ydc_delta, start_mut(out), out.len()) }
@@ -28,6 +28,12 @@ pub fn y1_factors(yac_qi: i32, ydc_delta: i32, out: &mut [i16]) -> u32 {
 
 pub fn dequant_block(coeffs: &mut [i16], dc: i16, ac: i16) -> u32 {
     unsafe { raw::zopredil_dequant_block(start_mut(coeffs), coeffs.len(), dc, ac) }
+}
+
+pub fn dequantise(base: i32, deltas: [i32; 5], coeffs: &mut [i16], factors: &mut [i16]) -> u32 {
+    let [ydc, y2dc, y2ac, uvdc, uvac] = deltas;
+    let (c, f) = (start_mut(coeffs), start_mut(factors));
+    unsafe { raw::zopredil_dequantise(base, ydc, y2dc, y2ac, uvdc, uvac, c, coeffs.len(), f, factors.len()) }
 }
 
 pub fn inverse_wht(input: &[i16], out: &mut [i16]) -> u32 {

@@ -44,6 +44,7 @@ fn compare() -> Result<bool, String> {
     transforms::y1_factors(&mut run);
     let mut blocks = 0;
     blocks += transforms::dequant_block(&mut run);
+    transforms::dequantise(&mut run);
     blocks += transforms::inverse_wht(&mut run);
     blocks += transforms::inverse_wht_dc_only(&mut run);
     blocks += transforms::inverse_dct(&mut run);

@@ -28,11 +28,7 @@ pub fn y1_factors(run: &mut Run) -> u64 {
             case(q, d);
         }
     }
-    let around = |x: i32| (-3..=3).map(move |d| x.wrapping_add(d));
-    let limits: Vec<i32> = [0, 127, 128, -128, 32767, 65536, 1 << 30, -(1 << 30), i32::MAX, i32::MIN]
-        .into_iter()
-        .flat_map(around)
-        .collect();
+    let limits = index_limits();
     for &q in &limits {
         for &d in &limits {
             case(q, d);
@@ -69,6 +65,79 @@ pub fn dequant_block(run: &mut Run) -> u64 {
     for _ in 0..run.cases(1_000_000) {
         data::any_block(&mut r, &mut block);
         case(&block, r.short(), r.short());
+    }
+    tally.end(run)
+}
+
+/// The limits of 32 bits and of the tables, each with its neighbours.
+fn index_limits() -> Vec<i32> {
+    let around = |x: i32| (-3..=3).map(move |d| x.wrapping_add(d));
+    [0, 127, 128, -128, 32767, 65536, 1 << 30, -(1 << 30), i32::MAX, i32::MIN].into_iter().flat_map(around).collect()
+}
+
+/// A macroblock dequantised by both sides. The two slices that are lent, coefficients and factors, are parts of one, with
+/// marks between them.
+pub struct Dequantised {
+    pair: Pair<i16>,
+    start: Vec<i16>,
+}
+
+impl Dequantised {
+    pub fn new() -> Dequantised {
+        Dequantised { pair: Pair::new(1024, MARK), start: Vec::new() }
+    }
+
+    pub fn equal(&mut self, base: i32, deltas: [i32; 5], coeffs: &[i16], factors: usize) -> bool {
+        const BETWEEN: usize = 16;
+        self.start.clear();
+        self.start.extend(coeffs);
+        self.start.resize(coeffs.len() + BETWEEN + factors, MARK);
+        let n = coeffs.len();
+        let parts = |call: fn(i32, [i32; 5], &mut [i16], &mut [i16]) -> u32| {
+            move |lent: &mut [i16]| {
+                let (c, rest) = lent.split_at_mut(n);
+                call(base, deltas, c, &mut rest[BETWEEN..])
+            }
+        };
+        self.pair.holding(&self.start, parts(library::dequantise), parts(expected::dequantise))
+    }
+}
+
+/// Every index around the tables with every delta around it, in all five places at once; every pair of limits, with the
+/// delta in each place by itself; random indices, of a bitstream and of 32 bits, with random coefficients.
+pub fn dequantise(run: &mut Run) -> u64 {
+    let mut r = Random::new(run.seed);
+    let mut tally = Tally::new("dequantise");
+    let mut both = Dequantised::new();
+    let mut case = |q: i32, deltas: [i32; 5], coeffs: &[i16; 400]| {
+        let equal = both.equal(q, deltas, coeffs, 6);
+        tally.count(equal, || format!("yac_qi {q} deltas {deltas:?} coefficients {coeffs:?}"));
+    };
+    let mut coeffs = [0; 400];
+    data::coefficients(&mut r, &mut coeffs);
+    for q in (-160..=290).step_by(run.step(7)) {
+        for d in -300..=300 {
+            coeffs[(d + 300) as usize % 400] = r.short();
+            case(q, [d; 5], &coeffs);
+        }
+    }
+    let limits = index_limits();
+    for &q in &limits {
+        for &d in &limits {
+            for place in 0..5 {
+                let mut deltas = [0; 5];
+                deltas[place] = d;
+                case(q, deltas, &coeffs);
+            }
+        }
+    }
+    for k in 0..run.cases(300_000) {
+        data::coefficients(&mut r, &mut coeffs);
+        if k % 8 == 0 {
+            case(r.bits() as i32, std::array::from_fn(|_| r.bits() as i32), &coeffs);
+        } else {
+            case(r.below(128) as i32, std::array::from_fn(|_| r.below(31) as i32 - 15), &coeffs);
+        }
     }
     tally.end(run)
 }

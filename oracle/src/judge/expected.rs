@@ -4,6 +4,8 @@
 //! A function has the parameters of its C namesake, slices for pointers and lengths, and any lengths are allowed: it
 //! returns the reply, and leaves in the slice that it is lent what the C function must leave there.
 
+use vp8::dequant::MbDequantFactors;
+use vp8::frame::MbCoeffs;
 use vp8::intra_predict;
 use vp8::inverse_transform as transform;
 use vp8::macroblock::{IntraBmode, IntraUvMode, IntraYMode};
@@ -53,6 +55,38 @@ pub fn y1_factors(yac_qi: i32, ydc_delta: i32, out: &mut [i16]) -> u32 {
 pub fn dequant_block(coeffs: &mut [i16], dc: i16, ac: i16) -> u32 {
     let Ok(coeffs) = coeffs.try_into() else { return WRONG_LENGTH };
     transform::dequant_block(coeffs, dc, ac);
+    DONE
+}
+
+/// The factors' length comes first, then the five sums in unbounded numbers, then the coefficients' length. In every
+/// refusal but the first all factors are 0.
+pub fn dequantise(base: i32, deltas: [i32; 5], coeffs: &mut [i16], factors: &mut [i16]) -> u32 {
+    if factors.len() != 6 {
+        return WRONG_LENGTH;
+    }
+    factors.fill(0);
+    let fits = |delta: i32| i32::try_from(i64::from(base) + i64::from(delta)).is_ok();
+    if !deltas.into_iter().all(fits) {
+        return INDEX_SUM;
+    }
+    if coeffs.len() != 400 {
+        return WRONG_LENGTH;
+    }
+    let [ydc, y2dc, y2ac, uvdc, uvac] = deltas;
+    let f = MbDequantFactors::from_base_and_deltas(base, ydc, y2dc, y2ac, uvdc, uvac);
+    let block = |k: usize| std::array::from_fn(|i| coeffs[16 * k + i]);
+    let mut all = MbCoeffs {
+        y2: block(0),
+        y: std::array::from_fn(|k| block(1 + k)),
+        u: std::array::from_fn(|k| block(17 + k)),
+        v: std::array::from_fn(|k| block(21 + k)),
+    };
+    f.dequantize(&mut all);
+    let blocks = [all.y2].into_iter().chain(all.y).chain(all.u).chain(all.v);
+    for (into, block) in coeffs.chunks_mut(16).zip(blocks) {
+        into.copy_from_slice(&block);
+    }
+    factors.copy_from_slice(&[f.y1_dc, f.y1_ac, f.y2_dc, f.y2_ac, f.uv_dc, f.uv_ac]);
     DONE
 }
 

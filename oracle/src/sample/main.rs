@@ -267,8 +267,9 @@ fn drawn(modes: [u8; 3], sub_modes: Option<[u8; 16]>, record: &[u8; 81], coeffs:
 fn marks() -> Vec<usize> {
     let mut marks = vec![0, 1023];
     marks.extend((0..10).flat_map(|k| [1 << k, 1023 - (1 << k)]));
-    // the first row past the first column; the first column, and with one column only, past the first row; the last column
-    marks.extend([0b10_0100_1000, 0b01_0010_0110, 0b01_0010_0010, 0b11_1111_1011]);
+    // the first row past the first column; the first column past the first row, and without its top-left pixels; all but
+    // above-right
+    marks.extend([0b10_0100_1000, 0b01_1011_0111, 0b01_0010_0110, 0b11_1111_1011]);
     marks
 }
 

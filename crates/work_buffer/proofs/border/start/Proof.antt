@@ -7,7 +7,14 @@ use Rattle.work_buffer.proofs.border.start.Tie as tie
 
 returns : tie.Need-returns
 unfolding startOf aboveOr leftOr
-returns c = cc
+returns c =
+    rw (
+      c .bordered .ensures,
+      c .before .right-or .ensures,
+      c .before .before .edge-or2 .ensures,
+      c .before .before .before .edge-or .ensures,
+      c .before .before .before .before .pixel-or .ensures,
+    )
 
 pub start-spec : {M : Type 1} → statement M
 start-spec =

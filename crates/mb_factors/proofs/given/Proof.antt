@@ -1,0 +1,115 @@
+-- `mb_factors::given` meets its contract: each sum fits, so each table is read at the sum as given. Assumes nothing.
+use mathlib.Core.Path.{_≡_, ap, _∙_}
+use Prim.Native.Nat.{ℕ, _≤_, _*_, _/_, min, max}
+use native.Mathlib.Omega.{arith}
+use lib.IntN.{ℤ, pos, _+ℤ_}
+use mir.Syntax.{w32}
+use mir.Val.{SFits}
+use mir.Facts.{toZ-ofZ}
+use Rattle.whole.proofs.Held.{R32, held16}
+use Rattle.rfc6386.specs.MbFactors.{dcEntry, acEntry}
+use Rattle.rfc6386.proofs.MbFactors.{dc-entry-within, ac-entry-within}
+use Rattle.mb_factors.specs.declared.Entries.{Entries}
+use Rattle.mb_factors.specs.Entries.{entries}
+use Rattle.mb_factors.proofs.Sums.{Sums, sums-fit}
+use Rattle.mb_factors.proofs.Answers.{given-is}
+use Rattle.mb_factors.proofs.given.Statement.{statement}
+use Rattle.mb_factors.proofs.given.Tie as tie
+
+sums : (c : tie.Start) → let a = c .args in Sums (a .yac-qi) (a .ydc) (a .y2dc) (a .y2ac) (a .uvdc) (a .uvac)
+sums c = sums-fit _ _ _ _ _ _ (c .pre)
+
+-- a sum that fits, made of two numbers that were read from locals
+held : {x y : ℤ} → SFits w32 x → SFits w32 y → SFits w32 (x +ℤ y) → SFits w32 (R32 x +ℤ R32 y)
+held f g h = rw (toZ-ofZ f, toZ-ofZ g) h
+
+exact : {x y : ℤ} → SFits w32 x → SFits w32 y → SFits w32 (x +ℤ y) → R32 (R32 x +ℤ R32 y) ≡ x +ℤ y
+exact f g h = toZ-ofZ (held f g h) ∙ rw (toZ-ofZ f, toZ-ofZ g)
+
+-- the entries of both tables
+dc : (c : tie.After-dc-entries) → let a = c .before .args in c .dc-entries .result ≡ entries dcEntry (a .yac-qi +ℤ a .ydc) (a .yac-qi +ℤ a .y2dc) (a .yac-qi +ℤ a .uvdc)
+dc c =
+    let f = c .before .fits in
+    let h = sums (c .before) in
+    rw (exact (f .yac-qi) (f .ydc) (h .y1-dc), exact (f .yac-qi) (f .y2dc) (h .y2-dc), exact (f .yac-qi) (f .uvdc) (h .uv-dc)) at (c .dc-entries .ensures)
+
+ac : (c : tie.After-ac-entries) → let a = c .before .before .args in c .ac-entries .result ≡ entries acEntry (a .yac-qi) (a .yac-qi +ℤ a .y2ac) (a .yac-qi +ℤ a .uvac)
+ac c =
+    let f = c .before .before .fits in
+    let h = sums (c .before .before) in
+    rw (exact (f .yac-qi) (f .y2ac) (h .y2-ac), exact (f .yac-qi) (f .uvac) (h .uv-ac), toZ-ofZ (f .yac-qi)) at (c .ac-entries .ensures)
+
+module _ (r : Entries) (table : ℤ → ℕ) (i j k : ℤ) (e : r ≡ entries table i j k) where
+  first : r .first ≡ table i
+  unfolding entries
+  first = ap (λ (x : Entries). x .first) e
+
+  second : r .second ≡ table j
+  unfolding entries
+  second = ap (λ (x : Entries). x .second) e
+
+  third : r .third ≡ table k
+  unfolding entries
+  third = ap (λ (x : Entries). x .third) e
+
+-- each entry, as its caller has it
+y1-dc : (c : tie.After-dc-entries) → let a = c .before .args in c .dc-entries .result .first ≡ dcEntry (a .yac-qi +ℤ a .ydc)
+y1-dc c = first _ dcEntry _ _ _ (dc c)
+
+y2-dc : (c : tie.After-dc-entries) → let a = c .before .args in c .dc-entries .result .second ≡ dcEntry (a .yac-qi +ℤ a .y2dc)
+y2-dc c = second _ dcEntry _ _ _ (dc c)
+
+uv-dc : (c : tie.After-dc-entries) → let a = c .before .args in c .dc-entries .result .third ≡ dcEntry (a .yac-qi +ℤ a .uvdc)
+uv-dc c = third _ dcEntry _ _ _ (dc c)
+
+y1-ac : (c : tie.After-ac-entries) → let a = c .before .before .args in c .ac-entries .result .first ≡ acEntry (a .yac-qi)
+y1-ac c = first _ acEntry _ _ _ (ac c)
+
+y2-ac : (c : tie.After-ac-entries) → let a = c .before .before .args in c .ac-entries .result .second ≡ acEntry (a .yac-qi +ℤ a .y2ac)
+y2-ac c = second _ acEntry _ _ _ (ac c)
+
+uv-ac : (c : tie.After-ac-entries) → let a = c .before .before .args in c .ac-entries .result .third ≡ acEntry (a .yac-qi +ℤ a .uvac)
+uv-ac c = third _ acEntry _ _ _ (ac c)
+
+-- an entry is at most its table's last
+dc-most : (n : ℕ) (q : ℤ) → n ≡ dcEntry q → n ≤ 157
+dc-most n q e = rw e (dc-entry-within q .1)
+
+ac-most : (n : ℕ) (q : ℤ) → n ≡ acEntry q → n ≤ 284
+ac-most n q e = rw e (ac-entry-within q .1)
+
+returns : tie.Need-returns
+returns c =
+    let u = c .before in
+    let b = u .before in
+    let d = b .before in
+    let e = d .before in
+    let g = e .before in
+    let t = g .before in
+    let w = t .before in
+    given-is _ _ _ _ _ _ _ _ _ _ _ _
+    (held16 _ (g .plain .ok) ∙ g .plain .ensures ∙ ap pos (y1-dc w))
+    (held16 _ (e .plain2 .ok) ∙ e .plain2 .ensures ∙ ap pos (y1-ac t))
+    (held16 _ (d .twice .ok) ∙ d .twice .ensures ∙ ap (λ (n : ℕ). pos (n * 2)) (y2-dc w))
+    (held16 _ (b .at-least-eight .ok) ∙ b .at-least-eight .ensures ∙ ap (λ (n : ℕ). pos (max (n * 155 / 100) 8)) (y2-ac t))
+    (held16 _ (u .capped .ok) ∙ u .capped .ensures ∙ ap (λ (n : ℕ). pos (min n 132)) (uv-dc w))
+    (held16 _ (c .plain3 .ok) ∙ c .plain3 .ensures ∙ ap pos (uv-ac t))
+
+pub given-spec : {M : Type 1} → statement M
+given-spec =
+    tie.close
+    (tie.spec
+    (λ c. held (c .fits .yac-qi) (c .fits .ydc) (sums c .y1-dc))
+    (λ c. held (c .fits .yac-qi) (c .fits .y2dc) (sums c .y2-dc))
+    (λ c. held (c .fits .yac-qi) (c .fits .uvdc) (sums c .uv-dc))
+    (λ c κs. tt)
+    (λ c. let s = c .before in held (s .fits .yac-qi) (s .fits .y2ac) (sums s .y2-ac))
+    (λ c. let s = c .before in held (s .fits .yac-qi) (s .fits .uvac) (sums s .uv-ac))
+    (λ c κs. tt)
+    (λ c κs. omega (arith, dc-most _ _ (y1-dc (c .before))))
+    (λ c κs. ac-most _ _ (y1-ac (c .before)))
+    (λ c κs. dc-most _ _ (y2-dc (c .before .before .before)))
+    (λ c κs. ac-most _ _ (y2-ac (c .before .before .before)))
+    (λ c κs. tt)
+    (λ c κs. ac-most _ _ (uv-ac (c .before .before .before .before .before)))
+    returns)

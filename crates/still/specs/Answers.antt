@@ -9,7 +9,12 @@ use lib.ListN.{length}
 use Rattle.lists.specs.Lists.{pick, both}
 use Rattle.macroblock.specs.Reply.{wrongLength, outsidePicture}
 use Rattle.rfc6386.specs.Picture.{placeOk, sizesOk}
+use Rattle.still.specs.declared.StillReply.{StillReply}
 use Rattle.still.specs.Picture.{Canvas, canvas, picture, rightGiven, rightRead}
+
+-- a reply and the planes that it leaves
+abbrev pub told : StillReply → List ℕ → List ℕ → List ℕ → Canvas
+told r y u v = canvas (r .reply) (r .index) y u v
 
 -- each side 1 to 1,024
 unfoldable pub sizeOk : ℕ → ℕ → Bool
@@ -24,7 +29,7 @@ unfoldable pub stillAnswer : ℕ → ℕ → List ℕ → List ℕ → List ℤ 
 stillAnswer w h modes subs coeffs right y u v =
     pick (sizeOk w h)
     (pick (both (lengthsOk w h (length modes) (length subs) (length coeffs) (length y) (length u) (length v)) (eqb (length right) (4 * (h - 1))))
-    (picture w h modes subs coeffs (rightGiven right) y u v)
+    (picture w h modes subs coeffs (λ r y. rightGiven right r) y u v)
     (canvas wrongLength 0 y u v))
     (canvas outsidePicture 0 y u v)
 

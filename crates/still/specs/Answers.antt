@@ -29,7 +29,7 @@ unfoldable pub stillAnswer : ℕ → ℕ → List ℕ → List ℕ → List ℤ 
 stillAnswer w h modes subs coeffs right y u v =
     pick (sizeOk w h)
     (pick (both (lengthsOk w h (length modes) (length subs) (length coeffs) (length y) (length u) (length v)) (eqb (length right) (4 * (h - 1))))
-    (picture w h modes subs coeffs (λ r y. rightGiven right r) y u v)
+    (picture w h modes subs coeffs (rightGiven right) y u v)
     (canvas wrongLength 0 y u v))
     (canvas outsidePicture 0 y u v)
 

@@ -12,6 +12,8 @@
 //! # Ok::<(), zopredil::Reply>(())
 //! ```
 //!
+//! [`still_alone`] draws a whole still, [`still`] one that comes with the pixels right of the picture.
+//!
 //! [`gather`] takes the neighbours of a macroblock from the finished planes of a picture, [`macroblock`] draws it. The
 //! steps between are here too: [`y1_factors`] and [`dequant_block`] (14.1), [`inverse_wht`] (14.3), [`inverse_dct`]
 //! (14.4), [`add_residue`] (14.5), [`predict_y16x16`], [`predict_uv8x8`] and [`predict_b4x4`] (12.2 and 12.3).
@@ -25,6 +27,7 @@ mod neighbors;
 mod predict;
 pub mod raw;
 mod reply;
+mod still;
 mod transform;
 
 pub use macroblock::{gather, macroblock, Macroblock};
@@ -32,6 +35,7 @@ pub use modes::{IntraBmode, IntraUvMode, IntraYMode, MbModes};
 pub use neighbors::Neighbors;
 pub use predict::{predict_b4x4, predict_uv8x8, predict_y16x16};
 pub use reply::Reply;
+pub use still::{still, still_alone, PlanesMut, Still, StillRefused};
 pub use transform::{
     add_residue, dequant_block, inverse_dct, inverse_dct_add_into, inverse_wht, inverse_wht_dc_only, y1_factors,
     Y1DequantFactors,

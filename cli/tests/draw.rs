@@ -145,6 +145,17 @@ fn colours_are_those_of_the_three_planes() {
 }
 
 #[test]
+fn the_included_rooms_are_as_pictured() {
+    let folder = folder("rooms");
+    let examples = Path::new(env!("CARGO_MANIFEST_DIR")).join("../examples");
+    for room in ["hall", "chapel", "studio"] {
+        let still = examples.join(room).with_extension("still");
+        drawn(&folder, &["draw", still.to_str().unwrap(), "-o", "room.png"]);
+        assert_eq!(fs::read(folder.join("room.png")).unwrap(), fs::read(still.with_extension("png")).unwrap());
+    }
+}
+
+#[test]
 fn a_damaged_still_is_named_by_its_macroblock() {
     let folder = folder("damaged");
     fs::write(folder.join("a.png"), "an older picture").unwrap();

@@ -156,18 +156,20 @@ pub fn stills(run: &mut Run) -> u64 {
 /// Every byte in the place of each mode and skip byte of the second macroblock of three, and of its sub-block modes in
 /// each luma mode.
 fn every_byte(r: &mut Random, drawn: &mut Tally, damaged: &mut Tally) {
-    let start = Owned::new(r, 3, 1);
     let mut given = Owned::new(r, 3, 1);
+    let (modes, sub_modes) = (given.modes.clone(), given.sub_modes.clone());
     for byte in 0..=255 {
         for place in 3..6 {
-            given.modes.copy_from_slice(&start.modes);
+            given.modes.copy_from_slice(&modes);
             given.modes[place] = byte;
+            given.sub_modes[16..32].fill(byte % 10);
             case(r, &given, drawn, damaged);
         }
         for luma in 0..5 {
             for place in 16..32 {
-                given.modes.copy_from_slice(&start.modes);
+                given.modes.copy_from_slice(&modes);
                 given.modes[3] = luma;
+                given.sub_modes.copy_from_slice(&sub_modes);
                 given.sub_modes[16..32].fill(3);
                 given.sub_modes[place] = byte;
                 case(r, &given, drawn, damaged);

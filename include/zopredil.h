@@ -1,9 +1,9 @@
 /* zopredil.h: the picture code of VP8 key frames (RFC 6386, sections 12 and 14) as a C library.
  *
- * Fourteen functions over numbers and slices. A slice is a pointer and a length (size_t), counted in elements, not in
- * bytes. The pointer of a slice of length 0 may be NULL. A slice that is written must not overlap another slice of the
- * same call. Nothing is kept between calls, nothing is allocated, and no function asks anything of its arguments but
- * that each pointer has as many elements behind it as its length says: a wrong value is refused by a number.
+ * Functions over numbers and slices. A slice is a pointer and a length (size_t), counted in elements and not in bytes.
+ * The pointer of a slice of length 0 may be NULL. A slice that is written must not overlap another slice of the same
+ * call. Nothing is kept between calls, nothing is allocated, and no function asks anything of its arguments but that
+ * each pointer has as many elements behind it as its length says: a wrong value is refused by a number.
  *
  * Every function answers with a reply number; the two that draw a still put a macroblock's index before it. Where
  * several hold, the first of its own list is given:

@@ -4,6 +4,9 @@
 //! Whatever goes wrong is one line on standard error. The status is 0 for a drawn picture, 1 where the still or the
 //! picture's file is to blame, and 2 where the words of the command are.
 
+#![forbid(unsafe_code)]
+#![cfg_attr(not(test), deny(clippy::unwrap_used, clippy::expect_used, clippy::panic))]
+
 mod deflate;
 mod draw;
 mod picture;

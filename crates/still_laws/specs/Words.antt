@@ -1,0 +1,58 @@
+-- The words of the theorems on a still: its three planes at once, the place of a macroblock's pixel, what the walkers make of a macroblock at its turn,
+-- which macroblocks are finished, and the right-hand pixels that a finished picture shows.
+use Prim.Native.Nat.{ℕ, _+_, _-_, _*_, _/_, _%_, _<_}
+use mathlib.Core.Path.{_≡_}
+use mathlib.Core.List.{List}
+use mathlib.Core.Logic.{_⊎_}
+use lib.IntN.{ℤ}
+use lib.ListN.{getD, take, drop}
+use Rattle.lists.specs.Lists.{table}
+use Rattle.macroblock.specs.Reply.{done}
+use Rattle.reconstruct.specs.declared.ReconstructedMb.{ReconstructedMb}
+use Rattle.right_pixels.specs.Answers.{lastAbove}
+use Rattle.canvas.specs.Placed.{pixelAt}
+use Rattle.canvas.specs.Drawn.{made}
+use Rattle.still.specs.Picture.{Canvas}
+
+-- ---- the three planes: a macroblock's side, the plane itself, and a macroblock's pixels in it
+pub data Plane : Type 0 where
+  inY inU inV : Plane
+
+abbrev pub side : Plane → ℕ
+side inY = 16
+side inU = 8
+side inV = 8
+
+abbrev pub planeOf : Plane → Canvas → List ℕ
+planeOf inY d = d .y
+planeOf inU d = d .u
+planeOf inV d = d .v
+
+abbrev pub pixelsOf : Plane → ReconstructedMb → List ℕ
+pixelsOf inY m = m .y
+pixelsOf inU m = m .u
+pixelsOf inV m = m .v
+
+-- the place of pixel x of row i of macroblock k, in a picture w macroblocks wide
+abbrev pub pixelOf : Plane → ℕ → ℕ → ℕ → ℕ → ℕ
+pixelOf p w k i x = pixelAt (side p) w (k / w) (k % w) i x
+
+-- the place q is none of macroblock k's
+abbrev pub Outside : Plane → ℕ → ℕ → ℕ → Type 0
+Outside p w k q = (i x : ℕ) → i < side p → x < side p → q ≡ pixelOf p w k i x → ⊥
+
+-- ---- what the walkers make of macroblock k, over the planes as they stand
+module _ (w h : ℕ) (modes subs : List ℕ) (coeffs : List ℤ) (right : ℕ → List ℕ → List ℕ) where
+  unfoldable pub madeAt : ℕ → Canvas → ReconstructedMb
+  madeAt k d =
+      made w h (k % w) (k / w) (getD modes (3 * k) 0) (getD modes (3 * k + 1) 0) (getD modes (3 * k + 2) 0)
+      (take 16 (drop (16 * k) subs)) (right (k / w) (d .y)) (take 400 (drop (400 * k) coeffs)) (d .y) (d .u) (d .v)
+
+-- ---- macroblock k of the answer d is finished: all are where d is accepted, and those before its index where it is refused
+pub record Finished (w h : ℕ) (d : Canvas) (k : ℕ) : Type 0 where
+  pub inside : k < w * h
+  pub drawn : (d .reply ≡ done) ⊎ (k < d .index)
+
+-- ---- for each macroblock row after the first, four copies of the last pixel of the row above
+unfoldable pub rightsOf : ℕ → ℕ → List ℕ → List ℕ
+rightsOf w h y = table (4 * (h - 1)) (λ i. lastAbove y w (i / 4 + 1))

@@ -4,8 +4,12 @@
 --     Block         what stands where once a block is in its place
 --     Step          what a turn does to the planes
 --     First         the first n macroblocks, and which are finished
+--     Answered      an answer is a refusal that draws nothing, or the picture
+--     Alone         a still drawn alone is the still given the right-hand pixels that it shows
 pub mod Settled
 pub mod Digits
 pub mod Block
 pub mod Step
 pub mod First
+pub mod Answered
+pub mod Alone

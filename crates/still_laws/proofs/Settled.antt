@@ -1,6 +1,6 @@
 -- What no turn of a loop from turn k on changes is at its end as the first k turns left it. Assumes nothing.
 use Prim.Native.Nat.{ℕ, zero, suc, _<_, _≤_}
-use mathlib.Core.Path.{_≡_, refl, _∙_}
+use mathlib.Core.Path.{_≡_, _∙_}
 use mathlib.Core.Logic.{⊎-elim}
 use native.Mathlib.Nat.{eq-or-lt-of-le, le-of-suc-le-suc, le-refl}
 use native.Mathlib.Omega.{arith}

@@ -97,7 +97,7 @@ module _ (w h : ℕ) (modes subs : List ℕ) (coeffs : List ℤ) (y u v : List �
       let ends : (16 * r - 1) * (16 * w) + (16 * w - 1) < 16 * r * (16 * w) = rw up at (row-ends (16 * r - 1) (16 * w) (omega arith)) in
       sym
       (first-kept w h modes subs coeffs (rightRead w h) y u v inY ((16 * r - 1) * (16 * w) + (16 * w - 1)) k (w * h) (le-of-lt l)
-      (λ j a b i x hi hx e. let f : 16 * r * (16 * w) ≤ _ = pixel-from 16 w r (j / w) (j % w) i x (rows-rise w k j some a) in omega arith))
+      (λ j a b _ i x hi hx e. let f : 16 * r * (16 * w) ≤ _ = pixel-from 16 w r (j / w) (j % w) i x (rows-rise w k j some a) in omega arith))
 
   agree : (k : ℕ) → k < w * h → rightRead w h (k / w) (at k .y) ≡ rightGiven (rightsOf w h (at (w * h) .y)) (k / w) (at k .y)
   agree k l =

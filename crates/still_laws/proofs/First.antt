@@ -1,7 +1,7 @@
 -- The first n macroblocks of a still.
 --     first-step       turn n, from the first n to the first n + 1
 --     first-length     the planes keep their lengths
---     first-kept       a byte that is none of macroblocks k to m - 1 is after the first m as after the first k
+--     first-kept       a byte that is none of the macroblocks that were drawn from k to m - 1 is after the first m as after the first k
 --     first-refused    a refusal stays
 --     index-before     the refused macroblock is one of those that had their turn
 --     drawn-before     a macroblock that was drawn comes before the refused one
@@ -19,7 +19,7 @@ use Rattle.lists.specs.Lists.{turns}
 use Rattle.macroblock.specs.Reply.{done}
 use Rattle.reconstruct.specs.declared.ReconstructedMb.{ReconstructedMb}
 use Rattle.still.specs.Picture.{Canvas, canvas, turn, first, picture}
-use Rattle.still_laws.specs.Words.{Plane, planeOf, Outside, madeAt, Finished}
+use Rattle.still_laws.specs.Words.{Plane, planeOf, foundIn, Outside, madeAt, Finished}
 use Rattle.still_laws.proofs.Settled.{turns-settled}
 use Rattle.still_laws.proofs.Step.{Step, stays, refuses, puts, step, step-length, step-outside}
 
@@ -51,18 +51,22 @@ module _ (w h : ℕ) (modes subs : List ℕ) (coeffs : List ℤ) (right : ℕ �
   abbrev at : ℕ → Canvas
   at n = first w h modes subs coeffs right n y u v
 
+  -- macroblock k was drawn
+  abbrev pub Drawn : ℕ → Type 0
+  Drawn k = at (suc k) .reply ≡ 0
+
   pub first-step : (n : ℕ) → Step w n (madeAt w h modes subs coeffs right n (at n)) (at n) (at (suc n))
   unfolding first turns
   first-step n = step w h modes subs coeffs right n (at n)
 
-  pub first-length : (n : ℕ) (p : Plane) → length (planeOf p (at n)) ≡ length (planeOf p (canvas done 0 y u v))
+  pub first-length : (n : ℕ) (p : Plane) → length (planeOf p (at n)) ≡ length (foundIn p y u v)
   unfolding first turns
   first-length zero p = refl
   first-length (suc n) p = step-length (first-step n) p ∙ first-length n p
 
-  pub first-kept : (p : Plane) (q k m : ℕ) → k ≤ m → ((j : ℕ) → k ≤ j → j < m → Outside p w j q)
+  pub first-kept : (p : Plane) (q k m : ℕ) → k ≤ m → ((j : ℕ) → k ≤ j → j < m → Drawn j → Outside p w j q)
       → getD (planeOf p (at m)) q 0 ≡ getD (planeOf p (at k)) q 0
-  unfolding first
+  unfolding first turns
   first-kept p q k m l o =
       turns-settled (λ (d : Canvas). getD (planeOf p d) q 0) (turn w h modes subs coeffs right) (canvas done 0 y u v) k m l
       (λ j a b. step-outside (step w h modes subs coeffs right j (at j)) p q (o j a b))
@@ -88,10 +92,6 @@ module _ (w h : ℕ) (modes subs : List ℕ) (coeffs : List ℤ) (right : ℕ �
       let t : at (suc n) .index ≡ at n .index = ap (λ (x : Canvas). x .index) s in
       omega arith)
       (zero-or-not (at n .reply))
-
-  -- macroblock k was drawn
-  abbrev pub Drawn : ℕ → Type 0
-  Drawn k = at (suc k) .reply ≡ 0
 
   pub drawn-before : (k n : ℕ) → Drawn k → k < n → (at n .reply ≡ 0 → ⊥) → k < at n .index
   drawn-before k zero a l r = absurd (omega arith)

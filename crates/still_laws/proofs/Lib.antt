@@ -6,6 +6,7 @@
 --     First         the first n macroblocks, and which are finished
 --     Answered      an answer is a refusal that draws nothing, or the picture
 --     Alone         a still drawn alone is the still given the right-hand pixels that it shows
+--     Pixels        what the planes hold: the pixels of the finished macroblocks, and all other bytes as found
 pub mod Settled
 pub mod Digits
 pub mod Block
@@ -13,3 +14,4 @@ pub mod Step
 pub mod First
 pub mod Answered
 pub mod Alone
+pub mod Pixels

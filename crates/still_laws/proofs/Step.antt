@@ -91,8 +91,9 @@ module _ {w k : ℕ} {m : ReconstructedMb} {d e : Canvas} where
   step-length (puts z q r f) p =
       ap (λ (l : List ℕ). length l) (f p) ∙ placed-length (side p) w (k / w) (k % w) (pixelsOf p m) (planeOf p d)
 
-  pub step-outside : Step w k m d e → (p : Plane) (q : ℕ) → Outside p w k q → getD (planeOf p e) q 0 ≡ getD (planeOf p d) q 0
+  -- where it is refused, all of them
+  pub step-outside : Step w k m d e → (p : Plane) (q : ℕ) → (e .reply ≡ 0 → Outside p w k q) → getD (planeOf p e) q 0 ≡ getD (planeOf p d) q 0
   step-outside (stays n s) p q h = ap (λ (x : Canvas). getD (planeOf p x) q 0) s
   step-outside (refuses z n s f) p q h = ap (λ (l : List ℕ). getD l q 0) (f p)
   step-outside (puts z s r f) p q h =
-      ap (λ (l : List ℕ). getD l q 0) (f p) ∙ placed-outside (side p) w (k / w) (k % w) (pixelsOf p m) (planeOf p d) q h
+      ap (λ (l : List ℕ). getD l q 0) (f p) ∙ placed-outside (side p) w (k / w) (k % w) (pixelsOf p m) (planeOf p d) q (h s)

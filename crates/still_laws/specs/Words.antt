@@ -12,7 +12,7 @@ use Rattle.reconstruct.specs.declared.ReconstructedMb.{ReconstructedMb}
 use Rattle.right_pixels.specs.Answers.{lastAbove}
 use Rattle.canvas.specs.Placed.{pixelAt}
 use Rattle.canvas.specs.Drawn.{made}
-use Rattle.still.specs.Picture.{Canvas}
+use Rattle.still.specs.Picture.{Canvas, canvas}
 
 -- ---- the three planes: a macroblock's side, the plane itself, and a macroblock's pixels in it
 pub data Plane : Type 0 where
@@ -27,6 +27,10 @@ abbrev pub planeOf : Plane → Canvas → List ℕ
 planeOf inY d = d .y
 planeOf inU d = d .u
 planeOf inV d = d .v
+
+-- the planes as the call found them
+abbrev pub foundIn : Plane → List ℕ → List ℕ → List ℕ → List ℕ
+foundIn p y u v = planeOf p (canvas done 0 y u v)
 
 abbrev pub pixelsOf : Plane → ReconstructedMb → List ℕ
 pixelsOf inY m = m .y

@@ -7,6 +7,8 @@
 --     Answered      an answer is a refusal that draws nothing, or the picture
 --     Alone         a still drawn alone is the still given the right-hand pixels that it shows
 --     Pixels        what the planes hold: the pixels of the finished macroblocks, and all other bytes as found
+--     Unread        the sub-block bytes of a macroblock that is not B change nothing
+--     Walked        a macroblock that is drawn is what the walker of its luma byte answers
 pub mod Settled
 pub mod Digits
 pub mod Block
@@ -15,3 +17,5 @@ pub mod First
 pub mod Answered
 pub mod Alone
 pub mod Pixels
+pub mod Unread
+pub mod Walked

@@ -9,6 +9,7 @@
 --     Pixels        what the planes hold: the pixels of the finished macroblocks, and all other bytes as found
 --     Unread        the sub-block bytes of a macroblock that is not B change nothing
 --     Walked        a macroblock that is drawn is what the walker of its luma byte answers
+--     Demand3       demand 3 of each pixel of each finished macroblock
 pub mod Settled
 pub mod Digits
 pub mod Block
@@ -19,3 +20,4 @@ pub mod Alone
 pub mod Pixels
 pub mod Unread
 pub mod Walked
+pub mod Demand3

@@ -9,7 +9,12 @@ use lib.ListN.{length}
 use Rattle.lists.specs.Lists.{pick, both}
 use Rattle.macroblock.specs.Reply.{wrongLength, outsidePicture}
 use Rattle.rfc6386.specs.Picture.{placeOk, sizesOk}
+use Rattle.still.specs.declared.StillReply.{StillReply}
 use Rattle.still.specs.Picture.{Canvas, canvas, picture, rightGiven, rightRead}
+
+-- a reply and the planes that it leaves
+abbrev pub told : StillReply → List ℕ → List ℕ → List ℕ → Canvas
+told r y u v = canvas (r .reply) (r .index) y u v
 
 -- each side 1 to 1,024
 unfoldable pub sizeOk : ℕ → ℕ → Bool

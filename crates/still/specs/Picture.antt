@@ -46,8 +46,11 @@ module _ (w h : ℕ) (modes subs : List ℕ) (coeffs : List ℤ) (right : ℕ �
 
 -- ---- where the right-hand pixels come from
 -- given: four for each macroblock row after the first
+unfoldable pub rightAt : List ℕ → ℕ → List ℕ
+rightAt right r = pick (eqb r 0) (replicate 4 0) (take 4 (drop (4 * (r - 1)) right))
+
 unfoldable pub rightGiven : List ℕ → ℕ → List ℕ → List ℕ
-rightGiven right r y = pick (eqb r 0) (replicate 4 0) (take 4 (drop (4 * (r - 1)) right))
+rightGiven right r y = rightAt right r
 
 -- read from the luma plane as it stands, by the rule of `right_pixels`
 unfoldable pub rightRead : ℕ → ℕ → ℕ → List ℕ → List ℕ

@@ -18,20 +18,21 @@ use Rattle.picture_limits.proofs.Accepted.{Within}
 use Rattle.right_pixels.specs.Answers.{lastAbove, rightPixels}
 use Rattle.right_pixels.specs.declared.RightPixels.{RightPixels}
 use Rattle.right_pixels.proofs.Copies.{last-of-sixteen, row-refused, copies}
-use Rattle.still.specs.Picture.{Canvas, drawnAt, turn, first, picture, rightGiven, rightRead}
+use Rattle.still.specs.Picture.{Canvas, drawnAt, turn, first, picture, rightAt, rightGiven, rightRead}
 use Rattle.still.specs.Answers.{sizeOk, lengthsOk, stillAnswer, aloneAnswer}
+use Rattle.still.proofs.Sizes.{size-says, row-within}
 use Rattle.still_laws.specs.Words.{inY, rightsOf}
-use Rattle.still_laws.proofs.Digits.{pixel-from, rows-rise, row-inside}
+use Rattle.still_laws.proofs.Digits.{pixel-from, rows-rise}
 use Rattle.still_laws.proofs.First.{first-length, first-kept}
-use Rattle.still_laws.proofs.Answered.{accepted-size, accepted-lengths}
+use Rattle.still_laws.proofs.Answered.{accepted-lengths}
 
 -- ---- the right-hand pixels of a row
 pub given-first : (right y : List ℕ) → rightGiven right 0 y ≡ replicate 4 0
-unfolding rightGiven
+unfolding rightGiven rightAt
 given-first right y = refl
 
 pub given-later : (right y : List ℕ) (r : ℕ) → 1 ≤ r → rightGiven right r y ≡ take 4 (drop (4 * (r - 1)) right)
-unfolding rightGiven
+unfolding rightGiven rightAt
 given-later right y r l = rw (ne-eqb r 0 (λ e. omega arith))
 
 pub read-first : (w h : ℕ) (y : List ℕ) → rightRead w h 0 y ≡ replicate 4 0
@@ -106,7 +107,7 @@ module _ (w h : ℕ) (modes subs : List ℕ) (coeffs : List ℤ) (y u v : List �
       ⊎-elim
       (λ z. rw z (read-first w h (at k .y) ∙ sym (given-first rs (at k .y))))
       (λ m.
-      let inside : r < h = row-inside w h k l in
+      let inside : r < h = row-within k w h (size .column) l in
       let p : Within w h 0 r = record { width = size .width; height = size .height; column = size .column; row = inside } in
       read-later w h (at k .y) r m p (first-length w h modes subs coeffs (rightRead w h) y u v k inY ∙ fits)
       ∙ ap (λ (x : ℕ). replicate 4 x) (shown k l m)
@@ -132,7 +133,7 @@ module _ (w h : ℕ) (modes subs : List ℕ) (coeffs : List ℤ) (y u v : List �
   by-tests true false e f = rw (e, f)
   by-tests true true e f =
       rw (e, f, eq-eqb (length (rightsOf w h (picture w h modes subs coeffs (rightRead w h) y u v .y))) (4 * (h - 1)) (rights-length w h _))
-      (alone-picture w h modes subs coeffs y u v (accepted-size w h e) (accepted-lengths w h modes subs coeffs y u v f .y-plane))
+      (alone-picture w h modes subs coeffs y u v (size-says w h e) (accepted-lengths w h modes subs coeffs y u v f .y-plane))
 
   pub alone-is-given : aloneAnswer w h modes subs coeffs y u v
       ≡ stillAnswer w h modes subs coeffs (rightsOf w h (aloneAnswer w h modes subs coeffs y u v .y)) y u v

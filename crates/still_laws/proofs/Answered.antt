@@ -1,5 +1,5 @@
--- What the tests of a still say, and an answer by them: a refusal that draws nothing, or the picture.
---     accepted-size, accepted-lengths    what the tests of the size and of the lengths say
+-- An answer is a refusal that draws nothing, or the picture.
+--     accepted-lengths                   what the test of the lengths says of the planes
 --     still-answered, alone-answered     both calls
 -- Assumes nothing.
 use Prim.Native.Nat.{ℕ, _-_, _*_}
@@ -14,13 +14,10 @@ use Rattle.lists.specs.Lists.{pick, both}
 use Rattle.lists.proofs.Tests.{both-says, T-true}
 use Rattle.macroblock.specs.Reply.{wrongLength, outsidePicture}
 use Rattle.rfc6386.specs.Picture.{sizesOk}
-use Rattle.picture_limits.proofs.Accepted.{Within, Lengths, place-says, sizes-say}
+use Rattle.picture_limits.proofs.Accepted.{Within, Lengths, sizes-say}
 use Rattle.still.specs.Picture.{Canvas, canvas, picture, rightGiven, rightRead}
+use Rattle.still.proofs.Sizes.{size-says}
 use Rattle.still.specs.Answers.{sizeOk, lengthsOk, stillAnswer, aloneAnswer}
-
-pub accepted-size : (w h : ℕ) → sizeOk w h ≡ true → Within w h 0 0
-unfolding sizeOk
-accepted-size w h e = place-says w h 0 0 e
 
 module _ (w h : ℕ) (modes subs : List ℕ) (coeffs : List ℤ) (y u v : List ℕ) where
   abbrev lengths : Bool
@@ -44,7 +41,7 @@ module _ (w h : ℕ) (modes subs : List ℕ) (coeffs : List ℤ) (y u v : List �
       → Answered right (pick a (pick b (picture w h modes subs coeffs right y u v) (canvas wrongLength 0 y u v)) (canvas outsidePicture 0 y u v))
   by-tests right false b e f = refused outsidePicture (λ z. omega arith)
   by-tests right true false e f = refused wrongLength (λ z. omega arith)
-  by-tests right true true e f = drawn (accepted-size w h e) (accepted-lengths (f refl))
+  by-tests right true true e f = drawn (size-says w h e) (accepted-lengths (f refl))
 
   pub still-answered : (right : List ℕ) → Answered (rightGiven right) (stillAnswer w h modes subs coeffs right y u v)
   unfolding stillAnswer

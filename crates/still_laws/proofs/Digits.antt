@@ -3,11 +3,10 @@
 --     macroblock-apart  the same by the block's raster index
 --     pixel-from        a pixel of block row r stands at n r n w or later
 --     rows-rise         a later macroblock is in no earlier row
---     row-inside        macroblock k of w h is in one of the h rows
 -- Assumes nothing.
 use Prim.Native.Nat.{ℕ, suc, _+_, _*_, _/_, _%_, _<_, _≤_}
 use mathlib.Core.Path.{_≡_, sym, ap, _∙_}
-use native.Mathlib.Nat.{mul-le-mul-left, mul-le-mul-right, mul-add-div-right, div-eq-of-lt, add-zero, div-add-mod, mod-lt, le-div-iff-mul-le, div-mul-le-self, le-trans, lt-of-mul-lt-mul-right}
+use native.Mathlib.Nat.{mul-le-mul-left, mul-le-mul-right, mul-add-div-right, div-eq-of-lt, add-zero, div-add-mod, mod-lt, le-div-iff-mul-le, div-mul-le-self, le-trans}
 use native.Mathlib.Omega.{arith}
 use Rattle.canvas.specs.Placed.{pixelAt}
 
@@ -52,9 +51,3 @@ pixel-from n w r s c i x h =
 
 pub rows-rise : (w k l : ℕ) → 0 < w → k ≤ l → k / w ≤ l / w
 rows-rise w k l h m = le-div-iff-mul-le h .1 (le-trans (div-mul-le-self k w) m)
-
-pub row-inside : (w h k : ℕ) → k < w * h → k / w < h
-row-inside w h k m =
-    let l : k / w * w ≤ k = div-mul-le-self k w in
-    let s : k / w * w < h * w = omega arith in
-    lt-of-mul-lt-mul-right w s

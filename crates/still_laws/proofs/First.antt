@@ -4,6 +4,7 @@
 --     first-kept       a byte that is none of the macroblocks that were drawn from k to m - 1 is after the first m as after the first k
 --     first-refused    a refusal stays
 --     index-before     the refused macroblock is one of those that had their turn
+--     index-none       where none is refused, the index is 0
 --     drawn-before     a macroblock that was drawn comes before the refused one
 --     finished-drawn, drawn-finished     a macroblock is finished exactly where it was drawn
 -- Assumes nothing.
@@ -33,19 +34,24 @@ module _ {w k : ℕ} {m : ReconstructedMb} {d e : Canvas} where
   step-refused : Step w k m d e → (d .reply ≡ 0 → ⊥) → e ≡ d
   step-refused (stays n q) h = q
   step-refused (refuses z n i f) h = absurd (h z)
-  step-refused (puts z q r f) h = absurd (h z)
+  step-refused (puts z q o r f) h = absurd (h z)
 
   -- a turn that refuses gives its own index
-  step-index : Step w k m d e → (e .reply ≡ 0 → ⊥) → d .reply ≡ 0 → e .index ≡ k
+  pub step-index : Step w k m d e → (e .reply ≡ 0 → ⊥) → d .reply ≡ 0 → e .index ≡ k
   step-index (stays n q) h z = absurd (n z)
   step-index (refuses z n i f) h _ = i
-  step-index (puts z q r f) h _ = absurd (h q)
+  step-index (puts z q o r f) h _ = absurd (h q)
 
   -- a turn that keeps the reply 0 puts
   pub step-accepted : Step w k m d e → e .reply ≡ 0 → d .reply ≡ 0
   step-accepted (stays n q) h = absurd (n (ap (λ (x : Canvas). x .reply) (sym q) ∙ h))
   step-accepted (refuses z n i f) h = z
-  step-accepted (puts z q r f) h = z
+  step-accepted (puts z q o r f) h = z
+
+  step-zero : Step w k m d e → e .reply ≡ 0 → e .index ≡ 0
+  step-zero (stays n q) h = absurd (n (ap (λ (x : Canvas). x .reply) (sym q) ∙ h))
+  step-zero (refuses z n i f) h = absurd (n h)
+  step-zero (puts z q o r f) h = o
 
 module _ (w h : ℕ) (modes subs : List ℕ) (coeffs : List ℤ) (right : ℕ → List ℕ → List ℕ) (y u v : List ℕ) where
   abbrev at : ℕ → Canvas
@@ -92,6 +98,11 @@ module _ (w h : ℕ) (modes subs : List ℕ) (coeffs : List ℤ) (right : ℕ �
       let t : at (suc n) .index ≡ at n .index = ap (λ (x : Canvas). x .index) s in
       omega arith)
       (zero-or-not (at n .reply))
+
+  pub index-none : (n : ℕ) → at n .reply ≡ 0 → at n .index ≡ 0
+  unfolding first turns
+  index-none zero r = refl
+  index-none (suc n) r = step-zero (first-step n) r
 
   pub drawn-before : (k n : ℕ) → Drawn k → k < n → (at n .reply ≡ 0 → ⊥) → k < at n .index
   drawn-before k zero a l r = absurd (omega arith)

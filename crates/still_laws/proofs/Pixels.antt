@@ -3,6 +3,7 @@
 --     finished-made      a finished macroblock was accepted by the walkers
 --     finished-pixels    the pixels of a finished macroblock
 --     unfinished         a byte that is no finished macroblock's
+--     refused-keeps      a byte that is none of the macroblocks before a refused still's index
 --     answer-length      the planes keep their lengths
 --     still-*, alone-*   the same of the two calls
 -- Assumes nothing.
@@ -23,8 +24,9 @@ use Rattle.canvas.specs.Placed.{pixelAt}
 use Rattle.canvas.proofs.Places.{row-at}
 use Rattle.still.specs.Picture.{Canvas, canvas, first, picture, rightGiven, rightRead}
 use Rattle.still.specs.Answers.{stillAnswer, aloneAnswer}
+use Rattle.still.proofs.Sizes.{row-within}
 use Rattle.still_laws.specs.Words.{Plane, inY, inU, inV, side, planeOf, foundIn, pixelsOf, pixelOf, Outside, madeAt, Finished}
-use Rattle.still_laws.proofs.Digits.{macroblock-apart, row-inside}
+use Rattle.still_laws.proofs.Digits.{macroblock-apart}
 use Rattle.still_laws.proofs.Block.{placed-inside}
 use Rattle.still_laws.proofs.Step.{Step, stays, refuses, puts}
 use Rattle.still_laws.proofs.First.{first-step, first-length, first-kept, finished-drawn, drawn-finished}
@@ -35,13 +37,13 @@ module _ {w k : ℕ} {m : ReconstructedMb} {d e : Canvas} where
   step-made : Step w k m d e → e .reply ≡ 0 → m .reply ≡ 0
   step-made (stays n q) h = absurd (n (ap (λ (x : Canvas). x .reply) (sym q) ∙ h))
   step-made (refuses z n i f) h = absurd (n h)
-  step-made (puts z q r f) h = r
+  step-made (puts z q o r f) h = r
 
   step-pixels : Step w k m d e → e .reply ≡ 0 → 0 < w → (p : Plane) (i x : ℕ) → i < side p → x < side p → pixelOf p w k i x < length (planeOf p d)
       → getD (planeOf p e) (pixelOf p w k i x) 0 ≡ getD (pixelsOf p m) (side p * i + x) 0
   step-pixels (stays n q) h s p i x hi hx l = absurd (n (ap (λ (x : Canvas). x .reply) (sym q) ∙ h))
   step-pixels (refuses z n q f) h s p i x hi hx l = absurd (n h)
-  step-pixels (puts z q r f) h s p i x hi hx l =
+  step-pixels (puts z q o r f) h s p i x hi hx l =
       ap (λ (t : List ℕ). getD t (pixelOf p w k i x) 0) (f p)
       ∙ placed-inside (side p) w (k / w) (k % w) (pixelsOf p m) (mod-lt k s) i x hi hx (planeOf p d) l
 
@@ -60,7 +62,7 @@ module _ (w h : ℕ) (y u v : List ℕ) (fits : Lengths (length y) (length u) (l
   pub pixel-lies : (p : Plane) (k i x : ℕ) → 0 < w → k < w * h → i < side p → x < side p → pixelOf p w k i x < length (foundIn p y u v)
   unfolding pixelAt
   pixel-lies p k i x s l hi hx =
-      let a = placed (side p) (foundIn p y u v) w h (k % w) (k / w) (some-side p) (mod-lt k s) (row-inside w h k l) (squares p) in
+      let a = placed (side p) (foundIn p y u v) w h (k % w) (k / w) (some-side p) (mod-lt k s) (row-within k w h s l) (squares p) in
       let b = row-at a i hi .whole in
       omega arith
 
@@ -102,6 +104,11 @@ module _ (w h : ℕ) (modes subs : List ℕ) (coeffs : List ℤ) (y u v : List �
   unfinished (drawn size fits) p q o =
       first-kept w h modes subs coeffs right y u v p q 0 (w * h) (omega arith)
       (λ j a b t. o j (drawn-finished w h modes subs coeffs right y u v j b t))
+
+  -- a refused still, by its index
+  pub refused-keeps : {d : Canvas} → Answered w h modes subs coeffs y u v right d → (d .reply ≡ 0 → ⊥)
+      → (p : Plane) (q : ℕ) → ((k : ℕ) → k < d .index → Outside p w k q) → getD (planeOf p d) q 0 ≡ getD (foundIn p y u v) q 0
+  refused-keeps a n p q o = unfinished a p q (λ k f. o k (⊎-elim (λ z. absurd (n z)) (λ l. l) (f .drawn)))
 
   pub answer-length : {d : Canvas} → Answered w h modes subs coeffs y u v right d → (p : Plane) → length (planeOf p d) ≡ length (foundIn p y u v)
   unfolding picture

@@ -47,7 +47,7 @@ module _ (w h c r luma chroma skip : ℕ) (subs right : List ℕ) (coeffs : List
 pub data Step (w k : ℕ) (m : ReconstructedMb) (d e : Canvas) : Type 0 where
   stays : (d .reply ≡ 0 → ⊥) → e ≡ d → Step w k m d e
   refuses : d .reply ≡ 0 → (e .reply ≡ 0 → ⊥) → e .index ≡ k → ((p : Plane) → planeOf p e ≡ planeOf p d) → Step w k m d e
-  puts : d .reply ≡ 0 → e .reply ≡ 0 → m .reply ≡ 0
+  puts : d .reply ≡ 0 → e .reply ≡ 0 → e .index ≡ 0 → m .reply ≡ 0
       → ((p : Plane) → planeOf p e ≡ placed (side p) w (k / w) (k % w) (pixelsOf p m) (planeOf p d)) → Step w k m d e
 
 same-planes : (reply index : ℕ) (d : Canvas) (p : Plane) → planeOf p (canvas reply index (d .y) (d .u) (d .v)) ≡ planeOf p d
@@ -66,7 +66,7 @@ from-into : (w k : ℕ) (m : ReconstructedMb) (d : Canvas) (t : ℕ × (List ℕ
     → Into w (k / w) (k % w) m (d .y) (d .u) (d .v) t
     → Step w k m d (canvas (t .0) (pick (eqb (t .0) done) 0 k) (t .1 .0) (t .1 .1 .0) (t .1 .1 .1))
 from-into w k m d t z (kept r n) = refuses z n (rw (ne-eqb r 0 n)) (same-planes r (pick (eqb r 0) 0 k) d)
-from-into w k m d t z (put e) = puts z refl e (put-planes 0 w (k / w) (k % w) m d)
+from-into w k m d t z (put e) = puts z refl refl e (put-planes 0 w (k / w) (k % w) m d)
 
 module _ (w h : ℕ) (modes subs : List ℕ) (coeffs : List ℤ) (right : ℕ → List ℕ → List ℕ) (k : ℕ) (d : Canvas) where
   by-reply : (a : Bool) → eqb (d .reply) done ≡ a → (t : ℕ × (List ℕ × (List ℕ × List ℕ)))
@@ -88,12 +88,12 @@ module _ {w k : ℕ} {m : ReconstructedMb} {d e : Canvas} where
   pub step-length : Step w k m d e → (p : Plane) → length (planeOf p e) ≡ length (planeOf p d)
   step-length (stays n q) p = ap (λ (x : Canvas). length (planeOf p x)) q
   step-length (refuses z n q f) p = ap (λ (l : List ℕ). length l) (f p)
-  step-length (puts z q r f) p =
+  step-length (puts z q i r f) p =
       ap (λ (l : List ℕ). length l) (f p) ∙ placed-length (side p) w (k / w) (k % w) (pixelsOf p m) (planeOf p d)
 
   -- where it is refused, all of them
   pub step-outside : Step w k m d e → (p : Plane) (q : ℕ) → (e .reply ≡ 0 → Outside p w k q) → getD (planeOf p e) q 0 ≡ getD (planeOf p d) q 0
   step-outside (stays n s) p q h = ap (λ (x : Canvas). getD (planeOf p x) q 0) s
   step-outside (refuses z n s f) p q h = ap (λ (l : List ℕ). getD l q 0) (f p)
-  step-outside (puts z s r f) p q h =
+  step-outside (puts z s i r f) p q h =
       ap (λ (l : List ℕ). getD l q 0) (f p) ∙ placed-outside (side p) w (k / w) (k % w) (pixelsOf p m) (planeOf p d) q (h s)

@@ -29,7 +29,7 @@ unfolding refusal
 passed true r k n e = (refl, refl)
 passed false r k n e = absurd (n e)
 
-mode-B : isB (yMode 4) ≡ true
+pub mode-B : isB (yMode 4) ≡ true
 unfolding yMode yModeAt modeAt
 mode-B = refl
 
@@ -37,7 +37,7 @@ module _ (luma chroma skip : ℕ) (subs : List ℕ) (there : Bool) (n : MbNeighb
   abbrev answer : ReconstructedMb
   answer = drawn luma chroma skip subs there n coeffs
 
-  luma-known : modesKnown luma chroma skip ≡ true → yReply luma ≡ 0
+  pub luma-known : modesKnown luma chroma skip ≡ true → yReply luma ≡ 0
   unfolding modesKnown
   luma-known e =
       eqb-true (yReply luma) 0 (T-true _ (both-says (eqb (yReply luma) done) (both (eqb (uvReply chroma) done) (leb skip 1)) e .0))

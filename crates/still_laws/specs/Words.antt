@@ -1,17 +1,20 @@
 -- The words of the theorems on a still: its three planes at once, the place of a macroblock's pixel, a macroblock at its turn, which
 -- macroblocks are finished, and the right-hand pixels that a finished picture shows.
 use Prim.Native.Nat.{ℕ, _+_, _-_, _*_, _/_, _%_, _<_}
+use mathlib.Core.Bool.{Bool, true}
 use mathlib.Core.Path.{_≡_}
 use mathlib.Core.List.{List}
 use mathlib.Core.Logic.{_⊎_}
+use lib.Dec.{eqb}
 use lib.IntN.{ℤ}
 use lib.ListN.{length, getD, take, drop}
-use Rattle.lists.specs.Lists.{table}
+use Rattle.lists.specs.Lists.{table, pick, both}
 use Rattle.macroblock.specs.Reply.{done}
 use Rattle.macroblock.specs.declared.modes.MbModes.{MbModes}
 use Rattle.macroblock.specs.declared.neighbors.MbNeighbors.{MbNeighbors}
 use Rattle.gathering.specs.Answers.{gathered}
-use Rattle.drawing.specs.Drawn.{modesOf}
+use Rattle.record_bytes.specs.Bytes.{within}
+use Rattle.drawing.specs.Drawn.{modesKnown, modesOf}
 use Rattle.reconstruct.specs.declared.ReconstructedMb.{ReconstructedMb}
 use Rattle.right_pixels.specs.Answers.{lastAbove}
 use Rattle.canvas.specs.Placed.{pixelAt}
@@ -71,6 +74,11 @@ subsAt subs k = take 16 (drop (16 * k) subs)
 
 abbrev pub coeffsAt : List ℤ → ℕ → List ℤ
 coeffsAt coeffs k = take 400 (drop (400 * k) coeffs)
+
+-- its bytes are known: the three mode bytes, and in mode B the sixteen sub-block bytes
+unfoldable pub bytesKnown : List ℕ → List ℕ → ℕ → Bool
+bytesKnown modes subs k =
+    both (modesKnown (lumaByte modes k) (chromaByte modes k) (skipByte modes k)) (pick (eqb (lumaByte modes k) 4) (within 9 16 (subsAt subs k)) true)
 
 module _ (w h : ℕ) (modes subs : List ℕ) (coeffs : List ℤ) (right : ℕ → List ℕ → List ℕ) where
   unfoldable pub madeAt : ℕ → Canvas → ReconstructedMb

@@ -41,13 +41,15 @@ module _ (n w r c : ℕ) (block : List ℕ) where
       (λ i a b. row-outside i (turns i (placedRow n w r c block) plane) q (λ x k. h i x b k))
 
   module _ (hc : c < w) (i x : ℕ) (hi : i < n) (hx : x < n) where
-    row-inside : (plane : List ℕ) → pixelAt n w r c i x < length plane → getD (placedRow n w r c block i plane) (pixelAt n w r c i x) 0 ≡ getD block (n * i + x) 0
+    row-inside : (plane : List ℕ) → pixelAt n w r c i x < length plane
+        → getD (placedRow n w r c block i plane) (pixelAt n w r c i x) 0 ≡ getD block (n * i + x) 0
     unfolding placedRow
     row-inside plane l =
         updates-inside 0 (λ x. pixelAt n w r c i x) (λ x _. getD block (n * i + x) 0) n plane x
         (λ j z hj hz e. pixel-apart n w r c i j r c i z hc hi hj hc hi hz e .3) hx l
 
-    pub placed-inside : (plane : List ℕ) → pixelAt n w r c i x < length plane → getD (placed n w r c block plane) (pixelAt n w r c i x) 0 ≡ getD block (n * i + x) 0
+    pub placed-inside : (plane : List ℕ) → pixelAt n w r c i x < length plane
+        → getD (placed n w r c block plane) (pixelAt n w r c i x) 0 ≡ getD block (n * i + x) 0
     unfolding placed turns
     placed-inside plane l =
         turns-settled (λ (l : List ℕ). getD l (pixelAt n w r c i x) 0) (placedRow n w r c block) plane (suc i) n hi

@@ -1,6 +1,7 @@
 -- Demand 3 of a still: of every answer, each pixel of each finished macroblock that is not skipped and whose coefficients that enter an inverse DCT lie from
 -- -8191 to 8191, scaled by 2^35, is less than 13 * 2^32 away from the exact one: the prediction, from the planes that the macroblocks before it left, with the
 -- exact transform T added, held within 0 and 255.
+-- `still-answered` and `alone-answered` say that the two calls' answers are such.
 --     whole-y, whole-u, whole-v     the four 16x16 modes
 --     parts-y, parts-u, parts-v     mode B
 -- Assumes nothing.

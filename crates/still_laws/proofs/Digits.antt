@@ -30,7 +30,8 @@ by-rows n w r c i x = omega arith
 module _ (n w r c i x s d j z : ℕ) (hc : c < w) (hi : i < n) (hx : x < n) (hd : d < w) (hj : j < n) (hz : z < n) where
   pub pixel-apart : pixelAt n w r c i x ≡ pixelAt n w s d j z → (r ≡ s) × (i ≡ j) × (c ≡ d) × (x ≡ z)
   pixel-apart e =
-      let o = digits (n * w) (n * r + i) (n * c + x) (n * s + j) (n * d + z) (across n w c x hc hx) (across n w d z hd hz) (sym (by-rows n w r c i x) ∙ e ∙ by-rows n w s d j z) in
+      let f : (n * r + i) * (n * w) + (n * c + x) ≡ (n * s + j) * (n * w) + (n * d + z) = sym (by-rows n w r c i x) ∙ e ∙ by-rows n w s d j z in
+      let o = digits (n * w) (n * r + i) (n * c + x) (n * s + j) (n * d + z) (across n w c x hc hx) (across n w d z hd hz) f in
       let a = digits n r i s j hi hj (let t : n * r + i ≡ n * s + j = o .0 in omega arith) in
       let b = digits n c x d z hx hz (let t : n * c + x ≡ n * d + z = o .1 in omega arith) in
       (a .0, a .1, b .0, b .1)

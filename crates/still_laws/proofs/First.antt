@@ -114,7 +114,8 @@ module _ (w h : ℕ) (modes subs : List ℕ) (coeffs : List ℤ) (right : ℕ �
       (λ q.
       let s : at (suc n) ≡ at n = step-refused (first-step n) q in
       let t : at (suc n) .index ≡ at n .index = ap (λ (x : Canvas). x .index) s in
-      ⊎-elim (λ e. absurd (r (subst (λ (t : ℕ). at t .reply ≡ 0) e a))) (λ p. let i : k < at n .index = drawn-before k n a (le-of-suc-le-suc p) q in omega arith) (eq-or-lt-of-le l))
+      ⊎-elim (λ e. absurd (r (subst (λ (t : ℕ). at t .reply ≡ 0) e a)))
+      (λ p. let i : k < at n .index = drawn-before k n a (le-of-suc-le-suc p) q in omega arith) (eq-or-lt-of-le l))
       (zero-or-not (at n .reply))
 
   abbrev whole : Canvas

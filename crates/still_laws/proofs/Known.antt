@@ -60,7 +60,8 @@ module _ (luma chroma skip : ℕ) (subs : List ℕ) (n : MbNeighbors) (coeffs : 
   by-bytes true true t e l q = in-B e (eqb-true luma 4 l) t q
   by-bytes true false t e l q =
       in-16x16 e
-      (⊎-elim (λ r. let z : yReply luma ≡ 0 = luma-known luma chroma skip subs true n coeffs e in absurd (omega arith)) (λ r. r) (luma-says luma (eqb-false luma 4 l)))
+      (⊎-elim (λ r. let z : yReply luma ≡ 0 = luma-known luma chroma skip subs true n coeffs e in absurd (omega arith)) (λ r. r)
+      (luma-says luma (eqb-false luma 4 l)))
 
 -- ---- one turn
 chosen : (b : Bool) (x : ℕ) (s t : List ℕ × (List ℕ × List ℕ)) → eqb x done ≡ b → pick b (done beside s) (x beside t) .0 ≡ x

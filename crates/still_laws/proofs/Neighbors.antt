@@ -20,7 +20,8 @@ use Rattle.still_laws.proofs.First.{first-length}
 use Rattle.still_laws.proofs.Answered.{Answered, refused, drawn}
 
 -- ---- gathering in a picture whose size and planes are accepted
-module _ (w h : ℕ) (right : ℕ → List ℕ → List ℕ) (k : ℕ) (d : Canvas) (p : Within w h (k % w) (k / w)) (l : Lengths (length (d .y)) (length (d .u)) (length (d .v)) w h) where
+module _ (w h : ℕ) (right : ℕ → List ℕ → List ℕ) (k : ℕ) (d : Canvas)
+    (p : Within w h (k % w) (k / w)) (l : Lengths (length (d .y)) (length (d .u)) (length (d .v)) w h) where
   gathers : gathered (d .y) (d .u) (d .v) w h (k % w) (k / w) (right (k / w) (d .y))
       ≡ record { reply = done; neighbors = neighborsOf (d .y) (d .u) (d .v) w (k / w) (k % w) (right (k / w) (d .y)) }
   unfolding gathered

@@ -126,7 +126,8 @@ module _ (w h : ℕ) (modes subs : List ℕ) (coeffs : List ℤ) (y u v : List �
         ≡ getD (pixelsOf p (madeAt w h modes subs coeffs (rightGiven given) k (first w h modes subs coeffs (rightGiven given) k y u v))) (side p * i + x) 0
     still-pixels = finished-pixels w h modes subs coeffs y u v (rightGiven given) (still-answered w h modes subs coeffs y u v given)
 
-    pub still-unfinished : (p : Plane) (q : ℕ) → ((k : ℕ) → Finished w h still k → Outside p w k q) → getD (planeOf p still) q 0 ≡ getD (foundIn p y u v) q 0
+    pub still-unfinished : (p : Plane) (q : ℕ) → ((k : ℕ) → Finished w h still k → Outside p w k q)
+        → getD (planeOf p still) q 0 ≡ getD (foundIn p y u v) q 0
     still-unfinished = unfinished w h modes subs coeffs y u v (rightGiven given) (still-answered w h modes subs coeffs y u v given)
 
   abbrev alone : Canvas
@@ -137,5 +138,6 @@ module _ (w h : ℕ) (modes subs : List ℕ) (coeffs : List ℤ) (y u v : List �
       ≡ getD (pixelsOf p (madeAt w h modes subs coeffs (rightRead w h) k (first w h modes subs coeffs (rightRead w h) k y u v))) (side p * i + x) 0
   alone-pixels = finished-pixels w h modes subs coeffs y u v (rightRead w h) (alone-answered w h modes subs coeffs y u v)
 
-  pub alone-unfinished : (p : Plane) (q : ℕ) → ((k : ℕ) → Finished w h alone k → Outside p w k q) → getD (planeOf p alone) q 0 ≡ getD (foundIn p y u v) q 0
+  pub alone-unfinished : (p : Plane) (q : ℕ) → ((k : ℕ) → Finished w h alone k → Outside p w k q)
+      → getD (planeOf p alone) q 0 ≡ getD (foundIn p y u v) q 0
   alone-unfinished = unfinished w h modes subs coeffs y u v (rightRead w h) (alone-answered w h modes subs coeffs y u v)

@@ -118,7 +118,8 @@ module _ (w h : ℕ) (modes subs : List ℕ) (coeffs : List ℤ) (y u v : List �
         unfolding stillAnswer
         still-is = rw (size, long, eq-eqb (length given) (4 * (h - 1)) four)
 
-        pub still-known : Known (w * h) → (stillAnswer w h modes subs coeffs given y u v .reply ≡ done) × (stillAnswer w h modes subs coeffs given y u v .index ≡ 0)
+        pub still-known : Known (w * h)
+            → (stillAnswer w h modes subs coeffs given y u v .reply ≡ done) × (stillAnswer w h modes subs coeffs given y u v .index ≡ 0)
         still-known e = rw still-is (picture-known w h modes subs coeffs (rightGiven given) y u v (size-says w h size) planes-fit fitting e)
 
         pub still-unknown : (j : ℕ) → j < w * h → Known j → bytesKnown modes subs j ≡ false

@@ -7,7 +7,8 @@ use native.Mathlib.Omega.{arith}
 use Rattle.lists.specs.Lists.{turns}
 
 module _ {A B : Type 0} (g : A → B) (f : ℕ → A → A) (x : A) where
-  pub turns-settled : (k m : ℕ) → k ≤ m → ((j : ℕ) → k ≤ j → j < m → g (f j (turns j f x)) ≡ g (turns j f x)) → g (turns m f x) ≡ g (turns k f x)
+  pub turns-settled : (k m : ℕ) → k ≤ m → ((j : ℕ) → k ≤ j → j < m → g (f j (turns j f x)) ≡ g (turns j f x))
+      → g (turns m f x) ≡ g (turns k f x)
   unfolding turns
   turns-settled k zero l h = let e : k ≡ 0 = omega arith in rw e
   turns-settled k (suc m) l h =

@@ -1,11 +1,12 @@
 /* zopredil.h: the picture code of VP8 key frames (RFC 6386, sections 12 and 14) as a C library.
  *
- * Functions over numbers and slices. A slice is a pointer and a length (size_t), counted in elements and not
- * in bytes. The pointer of a slice of length 0 may be NULL. A slice that is written must not overlap another slice of
- * the same call. Nothing is kept between calls, nothing is allocated, and no function asks anything of its arguments
- * but that each pointer has as many elements behind it as its length says: a wrong value is refused by a number.
+ * Functions over numbers and slices. A slice is a pointer and a length (size_t), counted in elements and not in bytes.
+ * The pointer of a slice of length 0 may be NULL. A slice that is written must not overlap another slice of the same
+ * call. Nothing is kept between calls, nothing is allocated, and no function asks anything of its arguments but that
+ * each pointer has as many elements behind it as its length says: a wrong value is refused by a number.
  *
- * Every function answers with a reply number. Where several hold, the first of its own list is given:
+ * Every function answers with a reply number; the two that draw a still put a macroblock's index before it. Where
+ * several hold, the first of its own list is given:
  *
  *     0  done
  *     1  a slice has the wrong length
@@ -154,6 +155,36 @@ uint32_t zopredil_gather(const uint8_t *y, size_t y_len, const uint8_t *u, size_
  * out has 4 bytes. Replies: 1 for out, nothing written; 7; 1 for y; after 7 and 1 for y out is zeros. */
 uint32_t zopredil_right_pixels(const uint8_t *y, size_t y_len, size_t cols, size_t rows, size_t row, uint8_t *out,
                                size_t out_len);
+
+/* Draws a whole still (12 and 14) that is cols macroblocks wide and rows high, each side 1 to 1,024: its macroblocks in
+ * raster order, each drawn as zopredil_macroblock does from the finished pixels around it. For n = cols * rows
+ * macroblocks, in raster order, modes has 3 n bytes (luma mode, chroma mode, skip), sub_modes 16 n, which are looked at
+ * in luma mode B only, coeffs 400 n numbers, the first 16 of a macroblock unused in luma mode B. right has the four
+ * luma pixels above and to the right of the last macroblock of each row after the first, 4 * (rows - 1) bytes. y has
+ * 256 n bytes, u and v 64 n, rows unpadded:
+ *
+ *                16 * cols                  8 * cols
+ *            +----+----+-- --+           +----+----+-- --+
+ *         16 | mb | mb |     |         8 | mb | mb |     |
+ *            +----+----+-- --+           +----+----+-- --+
+ *
+ * The edges of the picture: in the first row nothing is above; in the first column nothing is to the left, and below
+ * the first row the pixel above left is 129.
+ *
+ * The answer is the raster index of a macroblock times 256, plus the reply; the index is 0 but in reply 8. Replies: 7
+ * for a side; 1 for any slice; nothing is drawn after these. 8 at the first macroblock with an unknown mode, sub-block
+ * mode (in luma mode B) or skip byte, with its index: the macroblocks before it are finished, every other byte is
+ * kept. */
+uint64_t zopredil_still(size_t cols, size_t rows, const uint8_t *modes, size_t modes_len, const uint8_t *sub_modes,
+                        size_t sub_modes_len, const int16_t *coeffs, size_t coeffs_len, const uint8_t *right,
+                        size_t right_len, uint8_t *y, size_t y_len, uint8_t *u, size_t u_len, uint8_t *v,
+                        size_t v_len);
+
+/* The same for a still that comes without right: the four pixels are copies of the last pixel, of the 16 * cols, of the
+ * luma row above the macroblock row. It answers as zopredil_still does when it is given those. */
+uint64_t zopredil_still_alone(size_t cols, size_t rows, const uint8_t *modes, size_t modes_len,
+                              const uint8_t *sub_modes, size_t sub_modes_len, const int16_t *coeffs, size_t coeffs_len,
+                              uint8_t *y, size_t y_len, uint8_t *u, size_t u_len, uint8_t *v, size_t v_len);
 
 #ifdef __cplusplus
 }

@@ -1,6 +1,7 @@
 //! The C functions of `libzopredil.a` as `include/zopredil.h` declares them: a slice is a pointer and a length counted
-//! in elements, the answer is a reply number. A pointer has as many elements behind it as its length says, and a slice
-//! that is written overlaps no other; the functions ask nothing else.
+//! in elements, the answer is a reply number, with a macroblock's index before it where a still is drawn. A pointer has
+//! as many elements behind it as its length says, and a slice that is written overlaps no other; the functions ask
+//! nothing else.
 
 #[rustfmt::skip]
 extern "C" {
@@ -92,4 +93,28 @@ extern "C" {
         cols: usize, rows: usize, row: usize,
         out: *mut u8, out_len: usize,
     ) -> u32;
+
+    /// Draws a still; for n macroblocks `modes` 3 n, `sub_modes` 16 n, `coeffs` 400 n, `right` 4 for each row but the
+    /// first, `y` 256 n, `u` and `v` 64 n. The answer is the raster index times 256 plus the reply.
+    pub fn zopredil_still(
+        cols: usize, rows: usize,
+        modes: *const u8, modes_len: usize,
+        sub_modes: *const u8, sub_modes_len: usize,
+        coeffs: *const i16, coeffs_len: usize,
+        right: *const u8, right_len: usize,
+        y: *mut u8, y_len: usize,
+        u: *mut u8, u_len: usize,
+        v: *mut u8, v_len: usize,
+    ) -> u64;
+
+    /// The same without `right`.
+    pub fn zopredil_still_alone(
+        cols: usize, rows: usize,
+        modes: *const u8, modes_len: usize,
+        sub_modes: *const u8, sub_modes_len: usize,
+        coeffs: *const i16, coeffs_len: usize,
+        y: *mut u8, y_len: usize,
+        u: *mut u8, u_len: usize,
+        v: *mut u8, v_len: usize,
+    ) -> u64;
 }

@@ -5,6 +5,10 @@ use Prim.Native.Nat.{ℕ}
 use lib.IntN.{ℤ}
 use Rattle.lists.proofs.Answer.{OneAnswerIn, same}
 use Rattle.slices.proofs.Pairs.{same-pair}
+use Rattle.zopredil.proofs.zopredil_still.Reads as still
+use Rattle.zopredil.proofs.zopredil_still.Kinds as still-k
+use Rattle.zopredil.proofs.zopredil_still_alone.Reads as still-alone
+use Rattle.zopredil.proofs.zopredil_still_alone.Kinds as still-alone-k
 use Rattle.zopredil.proofs.zopredil_y1_factors.Reads as y1-factors
 use Rattle.zopredil.proofs.zopredil_y1_factors.Kinds as y1-factors-k
 use Rattle.zopredil.proofs.zopredil_dequant_block.Reads as dequant-block
@@ -78,3 +82,11 @@ pub dequantise-one : OneAnswerIn 2 dequantise-k.ps dequantise-k.r dequantise.Pos
 dequantise-one κs a x y s t p q =
     let e = same p q in
     (ap (λ (w : ℕ × List ℤ × List ℤ). w .0) e, ap (λ (w : ℕ × List ℤ × List ℤ). (w .1, w .2)) e)
+
+pub still-one : OneAnswerIn 7 still-k.ps still-k.r still.Post {A = List ℕ × (List ℕ × List ℕ)}
+    (λ κs s. (s .1 .1 .1 .1 .1 .1 .0 .now, (s .1 .1 .1 .1 .1 .1 .1 .0 .now, s .1 .1 .1 .1 .1 .1 .1 .1 .0 .now)))
+still-one κs a x y s t = same-pair
+
+pub still-alone-one : OneAnswerIn 6 still-alone-k.ps still-alone-k.r still-alone.Post {A = List ℕ × (List ℕ × List ℕ)}
+    (λ κs s. (s .1 .1 .1 .1 .1 .0 .now, (s .1 .1 .1 .1 .1 .1 .0 .now, s .1 .1 .1 .1 .1 .1 .1 .0 .now)))
+still-alone-one κs a x y s t = same-pair

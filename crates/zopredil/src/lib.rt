@@ -7,6 +7,7 @@ ghost use Rattle.predict_slices.specs.Answers.{lumaAnswer, chromaAnswer, subBlo
 ghost use Rattle.macroblock_slices.specs.Answers.{mbAnswer};
 ghost use Rattle.gather_bytes.specs.Answer.{gatherAnswer};
 ghost use Rattle.right_pixels.specs.Answers.{rightAnswer};
+ghost use Rattle.still_numbers.specs.Numbers.{stillNumber, aloneNumber};
 ghost use Rattle.mb_quantiser.specs.Answers.{slicesAnswer};
 
 #[no_mangle]
@@ -163,4 +164,41 @@ pub extern "C" fn zopredil_right_pixels(
     ensures { λ r. ⌜ (r beside now (out .exit)) ≡ rightAnswer (now (y .entry)) cols rows row (now (out .entry)) ⌝ }
 {
     right_pixels::right_pixels_into(y, cols, rows, row, out)
+}
+
+#[no_mangle]
+pub extern "C" fn zopredil_still(
+    cols: usize,
+    rows: usize,
+    modes: &[u8],
+    sub_modes: &[u8],
+    coeffs: &[i16],
+    right: &[u8],
+    y: &mut [u8],
+    u: &mut [u8],
+    v: &mut [u8],
+) -> u64
+    ensures { λ r. ⌜ (r beside now (y .exit) beside now (u .exit) beside now (v .exit))
+        ≡ stillNumber cols rows (now (modes .entry)) (now («sub_modes» .entry)) (now (coeffs .entry)) (now (right .entry))
+        (now (y .entry)) (now (u .entry)) (now (v .entry)) ⌝ }
+{
+    still_numbers::still(cols, rows, modes, sub_modes, coeffs, right, y, u, v)
+}
+
+#[no_mangle]
+pub extern "C" fn zopredil_still_alone(
+    cols: usize,
+    rows: usize,
+    modes: &[u8],
+    sub_modes: &[u8],
+    coeffs: &[i16],
+    y: &mut [u8],
+    u: &mut [u8],
+    v: &mut [u8],
+) -> u64
+    ensures { λ r. ⌜ (r beside now (y .exit) beside now (u .exit) beside now (v .exit))
+        ≡ aloneNumber cols rows (now (modes .entry)) (now («sub_modes» .entry)) (now (coeffs .entry))
+        (now (y .entry)) (now (u .entry)) (now (v .entry)) ⌝ }
+{
+    still_numbers::still_alone(cols, rows, modes, sub_modes, coeffs, y, u, v)
 }

@@ -1,6 +1,7 @@
-//! The thirteen functions of the library, called through the C interface with slices of any length. An empty slice is
+//! The functions of the library, called through the C interface with slices of any length. An empty slice is
 //! handed over as a null pointer.
 
+use judge::still::{Planes, Still};
 use std::ptr;
 use zopredil::raw;
 
@@ -124,4 +125,23 @@ pub fn gather(
 
 pub fn right_pixels(y: &[u8], cols: usize, rows: usize, row: usize, out: &mut [u8]) -> u32 {
     unsafe { raw::zopredil_right_pixels(start(y), y.len(), cols, rows, row, start_mut(out), out.len()) }
+}
+
+/// `zopredil_still` or, where `right` is none, `zopredil_still_alone`.
+pub fn still(given: Still<'_>, right: Option<&[u8]>, planes: Planes<'_>) -> u64 {
+    let Still { cols, rows, modes, sub_modes, coeffs } = given;
+    let (m, s, c) = (start(modes), start(sub_modes), start(coeffs));
+    let (m_len, s_len, c_len) = (modes.len(), sub_modes.len(), coeffs.len());
+    let Planes { y, u, v } = planes;
+    let (y_len, u_len, v_len) = (y.len(), u.len(), v.len());
+    let (y, u, v) = (start_mut(y), start_mut(u), start_mut(v));
+    unsafe {
+        match right {
+            Some(right) => {
+                let (r, r_len) = (start(right), right.len());
+                raw::zopredil_still(cols, rows, m, m_len, s, s_len, c, c_len, r, r_len, y, y_len, u, u_len, v, v_len)
+            }
+            None => raw::zopredil_still_alone(cols, rows, m, m_len, s, s_len, c, c_len, y, y_len, u, u_len, v, v_len),
+        }
+    }
 }

@@ -7,6 +7,7 @@ mod lengths;
 mod library;
 mod predictions;
 mod replay;
+mod stills;
 mod tally;
 mod transforms;
 mod walkers;
@@ -58,12 +59,13 @@ fn compare() -> Result<bool, String> {
     walkers::refused(&mut run);
     gathering::gather(&mut run);
     gathering::right_pixels(&mut run);
+    let stills = stills::stills(&mut run);
     lengths::wrong_lengths(&mut run);
     if let Some(file) = words.sample {
         let bytes = std::fs::read(&file).map_err(|why| format!("{file}: {why}"))?;
         replay::sample(&bytes, &mut run);
     }
-    println!("in all {blocks} blocks and {macroblocks} macroblocks; differing {}", run.differing);
+    println!("in all {blocks} blocks, {macroblocks} macroblocks and {stills} stills; differing {}", run.differing);
     Ok(run.differing == 0)
 }
 

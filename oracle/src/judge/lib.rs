@@ -5,3 +5,4 @@ pub mod data;
 pub mod expected;
 pub mod format;
 pub mod random;
+pub mod still;

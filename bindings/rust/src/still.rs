@@ -1,0 +1,150 @@
+//! A whole still: every macroblock of a picture in raster order, each drawn from those before it.
+
+use crate::raw;
+use crate::reply::answer;
+use crate::Reply;
+use std::{error, fmt};
+
+/// A still as it is stored, macroblock after macroblock in raster order. Nothing is asked of its parts: a wrong length or
+/// an unknown byte is refused by the call that draws it.
+#[derive(Debug, Clone, Copy, PartialEq, Eq)]
+pub struct Still<'a> {
+    /// The width in macroblocks, 1 to 1,024.
+    pub cols: usize,
+    /// The height in macroblocks, 1 to 1,024.
+    pub rows: usize,
+    /// Three bytes a macroblock: the numbers of its luma and its chroma mode, and 1 where its coefficients are skipped,
+    /// else 0. [`MbModes::to_bytes`](crate::MbModes::to_bytes) makes them.
+    pub modes: &'a [u8],
+    /// Sixteen bytes a macroblock: the numbers of its sub-block modes. They are looked at in luma mode B only.
+    pub sub_modes: &'a [u8],
+    /// 400 dequantised coefficients a macroblock: Y2 16, Y 256, U 64, V 64, each block in raster order. Luma mode B does
+    /// not use the first 16.
+    pub coeffs: &'a [i16],
+}
+
+/// The three planes that a still is drawn into, rows unpadded.
+#[derive(Debug, PartialEq, Eq)]
+pub struct PlanesMut<'a> {
+    /// 256 bytes a macroblock: rows of 16 for each column.
+    pub y: &'a mut [u8],
+    /// 64 bytes a macroblock: rows of 8 for each column.
+    pub u: &'a mut [u8],
+    /// The same for V.
+    pub v: &'a mut [u8],
+}
+
+/// Why a still was refused, and where.
+#[derive(Debug, Clone, Copy, PartialEq, Eq, Hash)]
+pub struct StillRefused {
+    /// [`Reply::OutsidePicture`] or [`Reply::WrongLength`], with nothing drawn; or [`Reply::UnknownByte`].
+    pub reply: Reply,
+    /// The raster index of the macroblock with the unknown byte, which is also how many are finished. 0 in the other
+    /// replies.
+    pub macroblock: usize,
+}
+
+impl fmt::Display for StillRefused {
+    fn fmt(&self, f: &mut fmt::Formatter<'_>) -> fmt::Result {
+        match self.reply {
+            Reply::UnknownByte => write!(f, "macroblock {}: {}", self.macroblock, self.reply),
+            reply => reply.fmt(f),
+        }
+    }
+}
+
+impl error::Error for StillRefused {}
+
+/// The C interface's answer: the raster index times 256, plus the reply.
+fn still_answer(answered: u64) -> Result<(), StillRefused> {
+    let (macroblock, number) = ((answered >> 8) as usize, (answered & 255) as u32);
+    answer(number).map_err(|reply| StillRefused { reply, macroblock })
+}
+
+/// Draws a still, given the pixels right of the picture: four for each macroblock row after the first, which its last
+/// macroblock takes as the luma pixels above and to the right. Refused with [`Reply::OutsidePicture`] for its size, then
+/// with [`Reply::WrongLength`] for any slice, both before anything is drawn; then with [`Reply::UnknownByte`] at the
+/// first macroblock with an unknown byte: the macroblocks before it are finished, all other bytes as they were.
+///
+/// ```
+/// use zopredil::{still, PlanesMut, Reply, Still, StillRefused};
+///
+/// // two macroblocks, one below the other, skipped: the first in DC, the second in luma mode B, every sub-block in Ld
+/// let given = Still {
+///     cols: 1,
+///     rows: 2,
+///     modes: &[0, 0, 1, 4, 0, 1],
+///     sub_modes: &[[0; 16], [4; 16]].concat(),
+///     coeffs: &[0; 800],
+/// };
+/// let (mut y, mut u, mut v) = ([0; 512], [0; 128], [0; 128]);
+/// still(&given, &[90; 4], PlanesMut { y: &mut y, u: &mut u, v: &mut v })?;
+/// assert_eq!((y[0], y[256], y[256 + 63]), (128, 128, 90));
+///
+/// let given = Still { modes: &[0, 0, 1, 5, 0, 1], ..given };
+/// let refused = still(&given, &[90; 4], PlanesMut { y: &mut y, u: &mut u, v: &mut v });
+/// assert_eq!(refused, Err(StillRefused { reply: Reply::UnknownByte, macroblock: 1 }));
+/// # Ok::<(), StillRefused>(())
+/// ```
+pub fn still(still: &Still<'_>, right: &[u8], planes: PlanesMut<'_>) -> Result<(), StillRefused> {
+    // SAFETY: the pointers and the lengths are those of slices, and those that are written are lent alone.
+    still_answer(unsafe {
+        raw::zopredil_still(
+            still.cols,
+            still.rows,
+            still.modes.as_ptr(),
+            still.modes.len(),
+            still.sub_modes.as_ptr(),
+            still.sub_modes.len(),
+            still.coeffs.as_ptr(),
+            still.coeffs.len(),
+            right.as_ptr(),
+            right.len(),
+            planes.y.as_mut_ptr(),
+            planes.y.len(),
+            planes.u.as_mut_ptr(),
+            planes.u.len(),
+            planes.v.as_mut_ptr(),
+            planes.v.len(),
+        )
+    })
+}
+
+/// Draws a still that comes without the pixels right of the picture: for each macroblock row after the first they are
+/// four copies of the last pixel of the luma row above it, as decoders have them. Refused as [`still`] is.
+///
+/// ```
+/// use zopredil::{still_alone, PlanesMut, Reply, Still, StillRefused};
+///
+/// let given = Still { cols: 2, rows: 1, modes: &[0, 0, 1, 2, 1, 1], sub_modes: &[0; 32], coeffs: &[0; 800] };
+/// let (mut y, mut u, mut v) = ([0; 512], [0; 128], [0; 128]);
+/// still_alone(&given, PlanesMut { y: &mut y, u: &mut u, v: &mut v })?;
+/// assert_eq!((y, u[7], u[8]), ([128; 512], 128, 127));
+///
+/// let refused = still_alone(&given, PlanesMut { y: &mut y[1..], u: &mut u, v: &mut v });
+/// assert_eq!(refused, Err(StillRefused { reply: Reply::WrongLength, macroblock: 0 }));
+/// let refused = still_alone(&Still { cols: 1025, ..given }, PlanesMut { y: &mut y, u: &mut u, v: &mut v });
+/// assert_eq!(refused, Err(StillRefused { reply: Reply::OutsidePicture, macroblock: 0 }));
+/// # Ok::<(), StillRefused>(())
+/// ```
+pub fn still_alone(still: &Still<'_>, planes: PlanesMut<'_>) -> Result<(), StillRefused> {
+    // SAFETY: the pointers and the lengths are those of slices, and those that are written are lent alone.
+    still_answer(unsafe {
+        raw::zopredil_still_alone(
+            still.cols,
+            still.rows,
+            still.modes.as_ptr(),
+            still.modes.len(),
+            still.sub_modes.as_ptr(),
+            still.sub_modes.len(),
+            still.coeffs.as_ptr(),
+            still.coeffs.len(),
+            planes.y.as_mut_ptr(),
+            planes.y.len(),
+            planes.u.as_mut_ptr(),
+            planes.u.len(),
+            planes.v.as_mut_ptr(),
+            planes.v.len(),
+        )
+    })
+}

@@ -1,0 +1,257 @@
+//! Whole stills: the planes are what gathering and drawing one macroblock after another give, and what is refused.
+
+use zopredil::*;
+
+const MARK: u8 = 0xA5;
+
+/// A still of its own numbers, and planes full of marks.
+struct Owned {
+    cols: usize,
+    rows: usize,
+    modes: Vec<u8>,
+    sub_modes: Vec<u8>,
+    coeffs: Vec<i16>,
+}
+
+#[derive(Debug, Clone, PartialEq, Eq)]
+struct Planes {
+    y: Vec<u8>,
+    u: Vec<u8>,
+    v: Vec<u8>,
+}
+
+impl Planes {
+    fn marked(count: usize) -> Planes {
+        Planes { y: vec![MARK; 256 * count], u: vec![MARK; 64 * count], v: vec![MARK; 64 * count] }
+    }
+
+    fn lent(&mut self) -> PlanesMut<'_> {
+        PlanesMut { y: &mut self.y, u: &mut self.u, v: &mut self.v }
+    }
+
+    fn part(&mut self, y: usize, u: usize, v: usize) -> PlanesMut<'_> {
+        PlanesMut { y: &mut self.y[..y], u: &mut self.u[..u], v: &mut self.v[..v] }
+    }
+
+    /// Each plane with its pixels a side for a macroblock.
+    fn each(&mut self) -> [(&mut [u8], usize); 3] {
+        [(&mut self.y, 16), (&mut self.u, 8), (&mut self.v, 8)]
+    }
+
+    /// Marks the macroblocks from `index` on.
+    fn mark_from(&mut self, cols: usize, rows: usize, index: usize) {
+        for k in index..cols * rows {
+            let (row, col) = (k / cols, k % cols);
+            for (plane, n) in self.each() {
+                for line in n * row..n * row + n {
+                    plane[line * n * cols + n * col..][..n].fill(MARK);
+                }
+            }
+        }
+    }
+}
+
+impl Owned {
+    /// Modes of every kind, and coefficients of a picture's size.
+    fn new(cols: usize, rows: usize) -> Owned {
+        let mut seed = 12345u32;
+        let mut below = |n: u32| {
+            seed = seed.wrapping_mul(1664525).wrapping_add(1013904223);
+            (seed >> 16) % n
+        };
+        let count = cols * rows;
+        let mut modes = Vec::new();
+        for _ in 0..count {
+            modes.extend([below(5) as u8, below(4) as u8, u8::from(below(4) == 0)]);
+        }
+        let sub_modes = (0..16 * count).map(|_| below(10) as u8).collect();
+        let coeffs = (0..400 * count).map(|k| if k % 16 < 3 { below(401) as i16 - 200 } else { 0 }).collect();
+        Owned { cols, rows, modes, sub_modes, coeffs }
+    }
+
+    fn lent(&self) -> Still<'_> {
+        Still { cols: self.cols, rows: self.rows, modes: &self.modes, sub_modes: &self.sub_modes, coeffs: &self.coeffs }
+    }
+
+    fn count(&self) -> usize {
+        self.cols * self.rows
+    }
+
+    fn drawn_alone(&self) -> Planes {
+        let mut planes = Planes::marked(self.count());
+        still_alone(&self.lent(), planes.lent()).unwrap();
+        planes
+    }
+
+    /// The four pixels of each row after the first that `still_alone` takes.
+    fn right_of(&self, planes: &Planes) -> Vec<u8> {
+        (1..self.rows).flat_map(|row| [planes.y[16 * row * 16 * self.cols - 1]; 4]).collect()
+    }
+}
+
+const UNKNOWN: fn(usize) -> Result<(), StillRefused> =
+    |macroblock| Err(StillRefused { reply: Reply::UnknownByte, macroblock });
+
+#[test]
+fn alone_is_with_the_pixels_of_the_row_above() {
+    for (cols, rows) in [(1, 1), (1, 4), (5, 1), (4, 5)] {
+        let given = Owned::new(cols, rows);
+        let alone = given.drawn_alone();
+        let mut with = Planes::marked(given.count());
+        still(&given.lent(), &given.right_of(&alone), with.lent()).unwrap();
+        assert_eq!(with, alone);
+    }
+}
+
+#[test]
+fn the_first_macroblock_is_drawn_without_neighbours() {
+    for k in 0..20 {
+        let given = Owned::new(20, 1);
+        let modes = &given.modes[3 * k..3 * k + 3];
+        let one = Still {
+            cols: 1,
+            rows: 1,
+            modes,
+            sub_modes: &given.sub_modes[16 * k..16 * k + 16],
+            coeffs: &given.coeffs[400 * k..400 * k + 400],
+        };
+        let mut planes = Planes::marked(1);
+        still(&one, &[], planes.lent()).unwrap();
+        let by_number = MbModes {
+            y: IntraYMode::from_number(modes[0]).unwrap(),
+            uv: IntraUvMode::from_number(modes[1]).unwrap(),
+            skip: modes[2] == 1,
+        };
+        let sub_modes = std::array::from_fn(|i| IntraBmode::from_number(one.sub_modes[i]).unwrap());
+        let coeffs = one.coeffs.try_into().unwrap();
+        let drawn = macroblock(by_number, Some(&sub_modes), &Neighbors::default(), coeffs).unwrap();
+        assert_eq!((&planes.y[..], &planes.u[..], &planes.v[..]), (&drawn.y[..], &drawn.u[..], &drawn.v[..]));
+    }
+}
+
+#[test]
+fn the_left_margin_below_the_first_row_has_129_above_left() {
+    // TM below a skipped DC: left 129, above 128, above left 129
+    let given = Still { cols: 1, rows: 2, modes: &[0, 0, 1, 3, 3, 1], sub_modes: &[0; 32], coeffs: &[0; 800] };
+    let mut planes = Planes::marked(2);
+    still_alone(&given, planes.lent()).unwrap();
+    assert_eq!(planes, Planes { y: vec![128; 512], u: vec![128; 128], v: vec![128; 128] });
+}
+
+#[test]
+fn the_given_pixels_reach_the_last_column_only() {
+    let mut given = Owned::new(3, 3);
+    given.modes = [4, 0, 1].repeat(9);
+    given.sub_modes = vec![4; 9 * 16]; // Ld, which reads above and to the right
+    let draw = |right: &[u8]| {
+        let mut planes = Planes::marked(9);
+        still(&given.lent(), right, planes.lent()).unwrap();
+        planes.y
+    };
+    let (dark, light) = (draw(&[0; 8]), draw(&[255; 8]));
+    for (place, (d, l)) in dark.iter().zip(&light).enumerate() {
+        let (line, x) = (place / 48, place % 48);
+        if line < 16 || line < 32 && x < 32 {
+            assert_eq!(d, l);
+        }
+        if (line, x) == (31, 47) {
+            assert_eq!((*d, *l), (0, 255));
+        }
+    }
+}
+
+#[test]
+fn a_damaged_still_keeps_what_is_finished() {
+    let (cols, rows) = (4, 3);
+    let whole = Owned::new(cols, rows).drawn_alone();
+    for index in 0..cols * rows {
+        for (part, byte) in [(0, 5), (0, 255), (1, 4), (2, 2)] {
+            let mut given = Owned::new(cols, rows);
+            given.modes[3 * index + part] = byte;
+            let mut planes = Planes::marked(cols * rows);
+            assert_eq!(still_alone(&given.lent(), planes.lent()), UNKNOWN(index));
+            let mut kept = whole.clone();
+            kept.mark_from(cols, rows, index);
+            assert_eq!(planes, kept);
+            let mut planes = Planes::marked(cols * rows);
+            assert_eq!(still(&given.lent(), &given.right_of(&whole), planes.lent()), UNKNOWN(index));
+            assert_eq!(planes, kept);
+        }
+    }
+}
+
+#[test]
+fn sub_block_bytes_are_looked_at_in_mode_b_only() {
+    for luma in 0..5 {
+        for place in 0..16 {
+            let mut given = Owned::new(3, 1);
+            given.modes[3] = luma;
+            let good = given.drawn_alone();
+            given.sub_modes[16 + place] = 10;
+            let mut planes = Planes::marked(3);
+            let answered = still_alone(&given.lent(), planes.lent());
+            if luma == 4 {
+                assert_eq!(answered, UNKNOWN(1));
+            } else {
+                assert_eq!((answered, planes), (Ok(()), good));
+            }
+        }
+    }
+}
+
+#[test]
+fn the_first_wrong_macroblock_is_named() {
+    let mut given = Owned::new(2, 2);
+    given.modes[3 * 3] = 9;
+    given.modes[3 * 2 + 2] = 9;
+    assert_eq!(still_alone(&given.lent(), Planes::marked(4).lent()), UNKNOWN(2));
+    assert_eq!(UNKNOWN(2).unwrap_err().to_string(), format!("macroblock 2: {}", Reply::UnknownByte));
+}
+
+#[test]
+fn sizes_outside_the_limits() {
+    let refused = Err(StillRefused { reply: Reply::OutsidePicture, macroblock: 0 });
+    let given = Owned::new(1, 1);
+    for (cols, rows) in [(0, 1), (1, 0), (0, 0), (1025, 1), (1, 1025), (1 << 32, 1 << 32), (usize::MAX, usize::MAX)] {
+        let one = Still { cols, rows, ..given.lent() };
+        let mut planes = Planes::marked(1);
+        assert_eq!(still_alone(&one, planes.lent()), refused);
+        assert_eq!(still(&one, &[], planes.lent()), refused);
+        let none = Still { cols, rows, modes: &[], sub_modes: &[], coeffs: &[] }; // 7 comes before 1
+        assert_eq!(still_alone(&none, planes.lent()), refused);
+        assert_eq!(planes, Planes::marked(1));
+    }
+}
+
+#[test]
+fn wrong_lengths() {
+    let refused = Err(StillRefused { reply: Reply::WrongLength, macroblock: 0 });
+    let mut given = Owned::new(3, 3);
+    given.modes[0] = 99; // 1 comes before 8
+    let large = Owned::new(5, 2);
+    let right = [0; 9];
+    // modes, sub_modes, coeffs, right, y, u, v
+    let fit = [27, 144, 3600, 8, 2304, 576, 576];
+    for slice in 0..7 {
+        for length in [fit[slice] - 1, fit[slice] + 1] {
+            let mut cut = fit;
+            cut[slice] = length;
+            let wrong = Still {
+                cols: 3,
+                rows: 3,
+                modes: &large.modes[..cut[0]],
+                sub_modes: &large.sub_modes[..cut[1]],
+                coeffs: &large.coeffs[..cut[2]],
+            };
+            let mut planes = Planes::marked(10);
+            assert_eq!(still(&wrong, &right[..cut[3]], planes.part(cut[4], cut[5], cut[6])), refused);
+            if slice != 3 {
+                assert_eq!(still_alone(&wrong, planes.part(cut[4], cut[5], cut[6])), refused);
+            }
+            assert_eq!(planes, Planes::marked(10));
+        }
+    }
+    let mut planes = Planes::marked(10);
+    assert_eq!(still(&given.lent(), &right[..8], planes.part(2304, 576, 575)), refused);
+    assert_eq!(still(&given.lent(), &right[..8], planes.part(2304, 576, 576)), UNKNOWN(0));
+}

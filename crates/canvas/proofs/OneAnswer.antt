@@ -1,0 +1,11 @@
+-- The promise of `canvas` admits one answer only, and leaves one thing only in each plane. Assumes nothing.
+use mathlib.Core.List.{List}
+use Prim.Native.Nat.{ℕ}
+use Rattle.lists.proofs.Answer.{OneAnswerIn}
+use Rattle.slices.proofs.Pairs.{same-pair}
+use Rattle.canvas.proofs.draw_macroblock.Reads as draw-macroblock
+use Rattle.canvas.proofs.draw_macroblock.Kinds as draw-macroblock-k
+
+pub draw-macroblock-one : OneAnswerIn 4 draw-macroblock-k.ps draw-macroblock-k.r draw-macroblock.Post {A = List ℕ × (List ℕ × List ℕ)}
+    (λ κs s. (s .1 .1 .1 .1 .1 .1 .1 .1 .1 .1 .0 .now, (s .1 .1 .1 .1 .1 .1 .1 .1 .1 .1 .1 .0 .now, s .1 .1 .1 .1 .1 .1 .1 .1 .1 .1 .1 .1 .0 .now)))
+draw-macroblock-one κs a x y s t = same-pair

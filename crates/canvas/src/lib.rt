@@ -1,0 +1,89 @@
+// One macroblock drawn at its place in the planes of its picture.
+ghost use mathlib.Core.Path.{_≡_};
+ghost use Prim.Native.Nat.{_+_, _*_, _≤_};
+ghost use lib.ListN.{length, getD};
+ghost use Rattle.lists.specs.Lists.{turns, store};
+ghost use Rattle.slices.specs.Copies.{_beside_};
+ghost use Rattle.picture_limits.specs.Place.{Placed};
+ghost use Rattle.canvas.specs.Placed.{placed};
+ghost use Rattle.canvas.specs.Drawn.{drawnInto};
+use macroblock::reply;
+use reconstruct::ReconstructedMb;
+
+// n pixels of the block from `from` on, put from `at` on.
+fn place_row(plane: &mut [u8], at: usize, block: &[u8], from: usize, n: usize)
+    requires { ⌜ (at + n ≤ length (now plane)) × (from + n ≤ length (now block)) ⌝ }
+    ensures { λ _. ⌜ now (plane .exit) ≡ turns n (store (λ x. at + x) (λ x. getD (now (block .entry)) (from + x) 0)) (now (plane .entry)) ⌝ }
+{
+    for x in 0..n {
+        plane[at + x] = block[from + x];
+    }
+}
+
+// A block of n rows of n, in column c and row r of a picture w macroblocks wide.
+fn place(plane: &mut [u8], n: usize, w: usize, r: usize, c: usize, block: &[u8])
+    requires { ⌜ Placed n (now plane) w r c × (length (now block) ≡ n * n) ⌝ }
+    ensures { λ _. ⌜ now (plane .exit) ≡ placed n w r c (now (block .entry)) (now (plane .entry)) ⌝ }
+{
+    let stride = n * w;
+    for i in 0..n {
+        place_row(plane, n * r * stride + i * stride + n * c, block, n * i, n);
+    }
+}
+
+// A macroblock's three blocks.
+fn put(
+    drawn: ReconstructedMb,
+    w: usize,
+    r: usize,
+    c: usize,
+    y: &mut [u8],
+    u: &mut [u8],
+    v: &mut [u8],
+)
+    requires { ⌜ Placed 16 (now y) w r c × Placed 8 (now u) w r c × Placed 8 (now v) w r c ⌝ }
+    ensures { λ _. ⌜ (now (y .exit) ≡ placed 16 w r c (drawn .y) (now (y .entry)))
+        × (now (u .exit) ≡ placed 8 w r c (drawn .u) (now (u .entry)))
+        × (now (v .exit) ≡ placed 8 w r c (drawn .v) (now (v .entry))) ⌝ }
+{
+    let y_block = drawn.y;
+    let u_block = drawn.u;
+    let v_block = drawn.v;
+    place(y, 16, w, r, c, &y_block);
+    place(u, 8, w, r, c, &u_block);
+    place(v, 8, w, r, c, &v_block);
+}
+
+// The macroblock in column `col` and row `row` of a picture of `cols` by `rows` macroblocks, from its three mode bytes, its
+// sixteen sub-block bytes and its 400 coefficients; `right` is read in the last column below the first row alone. Refused, and
+// nothing written: what gathering refuses (7, then 1), then what drawing refuses (1, then 8).
+pub fn draw_macroblock(
+    cols: usize,
+    rows: usize,
+    col: usize,
+    row: usize,
+    luma: u8,
+    chroma: u8,
+    skip: u8,
+    sub_modes: [u8; 16],
+    right: [u8; 4],
+    coeffs: &[i16],
+    y: &mut [u8],
+    u: &mut [u8],
+    v: &mut [u8],
+) -> u32
+    ensures { λ r. ⌜ (r beside now (y .exit) beside now (u .exit) beside now (v .exit))
+        ≡ drawnInto cols rows col row luma chroma skip «sub_modes» right (now (coeffs .entry)) (now (y .entry)) (now (u .entry)) (now (v .entry)) ⌝ }
+{
+    let gathered = gathering::gather(y, u, v, cols, rows, col, row, right);
+    if gathered.reply != reply::DONE {
+        return gathered.reply;
+    }
+    let neighbors = gathered.neighbors;
+    let drawn = drawing::draw(luma, chroma, skip, sub_modes, true, neighbors, coeffs);
+    if drawn.reply != reply::DONE {
+        return drawn.reply;
+    }
+    put(drawn, cols, row, col, y, u, v);
+    reply::DONE
+}

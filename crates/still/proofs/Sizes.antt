@@ -1,0 +1,48 @@
+-- A picture's size, and the lengths that go with it. Assumes nothing.
+use Prim.Native.Nat.{ℕ, zero, _+_, _-_, _*_, _/_, _<_, _≤_}
+use mathlib.Core.Bool.{Bool, true, false}
+use mathlib.Core.Path.{_≡_, refl, sym, ap, _∙_}
+use native.Mathlib.Nat.{mul-le-mul, mul-comm, div-lt-iff-lt-mul}
+use native.Mathlib.Omega.{arith}
+use borrow.Author.Tests.{eqb-true}
+use lib.Dec.{eqb}
+use Rattle.lists.specs.Lists.{both}
+use Rattle.lists.proofs.Tests.{both-says, T-true}
+use Rattle.rfc6386.specs.Picture.{placeOk, sizesOk}
+use Rattle.picture_limits.proofs.Accepted.{Within, place-says}
+use Rattle.still.specs.Answers.{sizeOk, lengthsOk}
+use Rattle.still.specs.Fits.{Fits}
+
+pub size-says : (w h : ℕ) → sizeOk w h ≡ true → Within w h 0 0
+unfolding sizeOk
+size-says w h e = place-says w h 0 0 e
+
+-- at most 2^20 macroblocks
+pub at-most : {w h : ℕ} → w ≤ 1024 → h ≤ 1024 → w * h ≤ 1048576
+at-most a b = mul-le-mul a b
+
+-- the row of a macroblock
+pub row-within : (k w h : ℕ) → 0 < w → k < w * h → k / w < h
+row-within k w h p q = div-lt-iff-lt-mul p .1 (rw (mul-comm h w) q)
+
+left-holds : (a b : Bool) → both a b ≡ true → a ≡ true
+left-holds a b e = T-true a (both-says a b e .0)
+
+right-holds : (a b : Bool) → both a b ≡ true → b ≡ true
+right-holds a b e = T-true b (both-says a b e .1)
+
+pub fits : (w h modes subs coeffs y u v : ℕ) → sizeOk w h ≡ true → lengthsOk w h modes subs coeffs y u v ≡ true → Fits w h modes subs coeffs
+unfolding lengthsOk
+fits w h modes subs coeffs y u v s l =
+    let p = size-says w h s in
+    let n = w * h in
+    let one = right-holds (eqb modes (3 * n)) (both (eqb subs (16 * n)) (both (eqb coeffs (400 * n)) (sizesOk y u v w h))) l in
+    let two = right-holds (eqb subs (16 * n)) (both (eqb coeffs (400 * n)) (sizesOk y u v w h)) one in
+    record {
+      some = p .column;
+      width = p .width;
+      height = p .height;
+      modes-fit = eqb-true modes (3 * n) (left-holds (eqb modes (3 * n)) (both (eqb subs (16 * n)) (both (eqb coeffs (400 * n)) (sizesOk y u v w h))) l);
+      subs-fit = eqb-true subs (16 * n) (left-holds (eqb subs (16 * n)) (both (eqb coeffs (400 * n)) (sizesOk y u v w h)) one);
+      coeffs-fit = eqb-true coeffs (400 * n) (left-holds (eqb coeffs (400 * n)) (sizesOk y u v w h) two);
+    }

@@ -1,0 +1,49 @@
+-- A turn of the drawing, and a drawing that has ended. Assumes nothing.
+use Prim.Native.Nat.{ℕ, zero, suc, _+_, _-_, _/_, _<_, _≤_}
+use mathlib.Core.Path.{_≡_, refl, sym, ap, _∙_}
+use mathlib.Core.List.{List}
+use native.Mathlib.Nat.{add-zero, add-suc}
+use native.Mathlib.Numerals.{add-one}
+use native.Mathlib.Omega.{arith}
+use borrow.Author.Tests.{eq-eqb, ne-eqb}
+use lib.Dec.{eqb}
+use lib.IntN.{ℤ}
+use Rattle.lists.specs.Lists.{turns, pick}
+use Rattle.lists.proofs.Turns.{turns-step}
+use Rattle.slices.specs.Copies.{_beside_}
+use Rattle.still.specs.Picture.{Canvas, canvas, drawnAt, turn}
+
+module _ (w h : ℕ) (modes subs : List ℕ) (coeffs : List ℤ) (right : ℕ → List ℕ → List ℕ) where
+  -- ---- a turn, the right-hand pixels in hand
+  turned : (k : ℕ) (s : Canvas) (y u v p : List ℕ) (r : ℕ) (yy uu vv : List ℕ)
+      → canvas 0 0 y u v ≡ turns k (turn w h modes subs coeffs right) s → p ≡ right (k / w) y
+      → (r beside yy beside uu beside vv) ≡ drawnAt w h modes subs coeffs (λ r y. p) k y u v
+      → canvas r (pick (eqb r 0) 0 k) yy uu vv ≡ turns (k + 1) (turn w h modes subs coeffs right) s
+  unfolding turn drawnAt
+  turned k s y u v p r yy uu vv e q d =
+      turns-step k (turn w h modes subs coeffs right) s (canvas 0 0 y u v) (canvas r (pick (eqb r 0) 0 k) yy uu vv) e
+      (ap (λ (t : ℕ × (List ℕ × (List ℕ × List ℕ))). canvas (t .0) (pick (eqb (t .0) 0) 0 k) (t .1 .0) (t .1 .1 .0) (t .1 .1 .1)) (rw (← q) d))
+
+  pub again : (k : ℕ) (s : Canvas) (y u v p : List ℕ) (r : ℕ) (yy uu vv : List ℕ)
+      → canvas 0 0 y u v ≡ turns k (turn w h modes subs coeffs right) s → p ≡ right (k / w) y
+      → (r beside yy beside uu beside vv) ≡ drawnAt w h modes subs coeffs (λ r y. p) k y u v → r ≡ 0
+      → canvas 0 0 yy uu vv ≡ turns (k + 1) (turn w h modes subs coeffs right) s
+  again k s y u v p r yy uu vv e q d z =
+      sym (ap (λ (t : ℕ). canvas t (pick (eqb t 0) 0 k) yy uu vv) z) ∙ turned k s y u v p r yy uu vv e q d
+
+  -- ---- a refusal ends it
+  kept : (m j : ℕ) (s d : Canvas) → d ≡ turns m (turn w h modes subs coeffs right) s → (d .reply ≡ 0 → ⊥)
+      → d ≡ turns (m + j) (turn w h modes subs coeffs right) s
+  unfolding turns turn
+  kept m zero s d e k = rw add-zero e
+  kept m (suc j) s d e k = rw (add-suc, ← kept m j s d e k, ne-eqb (d .reply) 0 k) refl
+
+  pub ended : (n k : ℕ) (s : Canvas) (y u v p : List ℕ) (r : ℕ) (yy uu vv : List ℕ) → k < n
+      → canvas 0 0 y u v ≡ turns k (turn w h modes subs coeffs right) s → p ≡ right (k / w) y
+      → (r beside yy beside uu beside vv) ≡ drawnAt w h modes subs coeffs (λ r y. p) k y u v → (r ≡ 0 → ⊥)
+      → canvas r k yy uu vv ≡ turns n (turn w h modes subs coeffs right) s
+  ended n k s y u v p r yy uu vv l e q d z =
+      let stopped : canvas r k yy uu vv ≡ turns (k + 1) (turn w h modes subs coeffs right) s =
+      ap (λ (t : ℕ). canvas r t yy uu vv) (rw (ne-eqb r 0 z) refl) ∙ turned k s y u v p r yy uu vv e q d in
+      let rest : k + 1 + (n - (k + 1)) ≡ n = omega arith in
+      kept (k + 1) (n - (k + 1)) s (canvas r k yy uu vv) stopped z ∙ ap (λ (t : ℕ). turns t (turn w h modes subs coeffs right) s) rest

@@ -1,0 +1,42 @@
+-- What the still calls answer: 7 for a size outside 1 to 1,024 macroblocks a side, then 1 for a slice of another length, both before anything is drawn;
+-- else the picture.
+use Prim.Native.Nat.{ℕ, _-_, _*_}
+use mathlib.Core.Bool.{Bool}
+use mathlib.Core.List.{List}
+use lib.Dec.{eqb}
+use lib.IntN.{ℤ}
+use lib.ListN.{length}
+use Rattle.lists.specs.Lists.{pick, both}
+use Rattle.macroblock.specs.Reply.{wrongLength, outsidePicture}
+use Rattle.rfc6386.specs.Picture.{placeOk, sizesOk}
+use Rattle.still.specs.declared.StillReply.{StillReply}
+use Rattle.still.specs.Picture.{Canvas, canvas, picture, rightGiven, rightRead}
+
+-- a reply and the planes that it leaves
+abbrev pub told : StillReply → List ℕ → List ℕ → List ℕ → Canvas
+told r y u v = canvas (r .reply) (r .index) y u v
+
+-- each side 1 to 1,024
+unfoldable pub sizeOk : ℕ → ℕ → Bool
+sizeOk w h = placeOk w h 0 0
+
+-- 3, 16 and 400 an item, and the planes
+unfoldable pub lengthsOk : ℕ → ℕ → ℕ → ℕ → ℕ → ℕ → ℕ → ℕ → Bool
+lengthsOk w h modes subs coeffs y u v =
+    both (eqb modes (3 * (w * h))) (both (eqb subs (16 * (w * h))) (both (eqb coeffs (400 * (w * h))) (sizesOk y u v w h)))
+
+unfoldable pub stillAnswer : ℕ → ℕ → List ℕ → List ℕ → List ℤ → List ℕ → List ℕ → List ℕ → List ℕ → Canvas
+stillAnswer w h modes subs coeffs right y u v =
+    pick (sizeOk w h)
+    (pick (both (lengthsOk w h (length modes) (length subs) (length coeffs) (length y) (length u) (length v)) (eqb (length right) (4 * (h - 1))))
+    (picture w h modes subs coeffs (rightGiven right) y u v)
+    (canvas wrongLength 0 y u v))
+    (canvas outsidePicture 0 y u v)
+
+unfoldable pub aloneAnswer : ℕ → ℕ → List ℕ → List ℕ → List ℤ → List ℕ → List ℕ → List ℕ → Canvas
+aloneAnswer w h modes subs coeffs y u v =
+    pick (sizeOk w h)
+    (pick (lengthsOk w h (length modes) (length subs) (length coeffs) (length y) (length u) (length v))
+    (picture w h modes subs coeffs (rightRead w h) y u v)
+    (canvas wrongLength 0 y u v))
+    (canvas outsidePicture 0 y u v)

@@ -1,0 +1,4 @@
+-- A whole still.
+pub mod Picture
+pub mod Answers
+pub mod Fits

@@ -1,0 +1,57 @@
+-- A still: the macroblocks of a picture drawn one after another, in raster order, into its three planes. The first macroblock that is refused ends the
+-- drawing: its reply and its raster index are kept, with the planes as the finished ones left them.
+use Prim.Native.Nat.{ℕ, _+_, _-_, _*_, _/_, _%_}
+use mathlib.Core.List.{List}
+use lib.Dec.{eqb}
+use lib.IntN.{ℤ}
+use lib.ListN.{getD, take, drop, replicate}
+use Rattle.lists.specs.Lists.{turns, pick}
+use Rattle.macroblock.specs.Reply.{done}
+use Rattle.canvas.specs.Drawn.{drawnInto}
+use Rattle.right_pixels.specs.Answers.{rightPixels}
+
+-- the planes, beside a reply and the raster index of the refused macroblock, 0 where none is
+pub record Canvas : Type 0 where
+  pub reply : ℕ
+  pub index : ℕ
+  pub y : List ℕ
+  pub u : List ℕ
+  pub v : List ℕ
+
+abbrev pub canvas : ℕ → ℕ → List ℕ → List ℕ → List ℕ → Canvas
+canvas reply index y u v = record { reply = reply; index = index; y = y; u = u; v = v }
+
+-- what is drawn: for each macroblock three mode bytes, sixteen sub-block bytes and 400 coefficients; `right r y` are the four pixels above right of the
+-- last column of macroblock row r, y being the luma plane as it stands
+module _ (w h : ℕ) (modes subs : List ℕ) (coeffs : List ℤ) (right : ℕ → List ℕ → List ℕ) where
+  -- macroblock k, the planes y, u, v as they stand
+  unfoldable pub drawnAt : ℕ → List ℕ → List ℕ → List ℕ → ℕ × (List ℕ × (List ℕ × List ℕ))
+  drawnAt k y u v =
+      drawnInto w h (k % w) (k / w) (getD modes (3 * k) 0) (getD modes (3 * k + 1) 0) (getD modes (3 * k + 2) 0)
+      (take 16 (drop (16 * k) subs)) (right (k / w) y) (take 400 (drop (400 * k) coeffs)) y u v
+
+  -- a turn of the drawing
+  unfoldable pub turn : ℕ → Canvas → Canvas
+  turn k d =
+      let t = drawnAt k (d .y) (d .u) (d .v) in
+      pick (eqb (d .reply) done) (canvas (t .0) (pick (eqb (t .0) done) 0 k) (t .1 .0) (t .1 .1 .0) (t .1 .1 .1)) d
+
+  -- the first n macroblocks
+  unfoldable pub first : ℕ → List ℕ → List ℕ → List ℕ → Canvas
+  first n y u v = turns n turn (canvas done 0 y u v)
+
+  -- the picture
+  unfoldable pub picture : List ℕ → List ℕ → List ℕ → Canvas
+  picture y u v = first (w * h) y u v
+
+-- ---- where the right-hand pixels come from
+-- given: four for each macroblock row after the first
+unfoldable pub rightAt : List ℕ → ℕ → List ℕ
+rightAt right r = pick (eqb r 0) (replicate 4 0) (take 4 (drop (4 * (r - 1)) right))
+
+unfoldable pub rightGiven : List ℕ → ℕ → List ℕ → List ℕ
+rightGiven right r y = rightAt right r
+
+-- read from the luma plane as it stands, by the rule of `right_pixels`
+unfoldable pub rightRead : ℕ → ℕ → ℕ → List ℕ → List ℕ
+rightRead w h r y = rightPixels y w h r .pixels

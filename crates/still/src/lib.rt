@@ -1,0 +1,251 @@
+// A whole still (RFC 6386, 12 and 14): its macroblocks in raster order, each from the finished pixels around it.
+ghost use mathlib.Core.Path.{_≡_};
+ghost use Prim.Native.Nat.{_+_, _*_, _<_, _≤_};
+ghost use mathlib.Core.Bool.{true};
+ghost use lib.ListN.{length};
+ghost use Rattle.slices.specs.Copies.{_beside_};
+ghost use Rattle.still.specs.Picture.{drawnAt, picture, rightAt, rightGiven, rightRead};
+ghost use Rattle.still.specs.Fits.{Fits};
+ghost use Rattle.still.specs.Answers.{sizeOk, lengthsOk, told, stillAnswer, aloneAnswer};
+use macroblock::reply;
+
+// The reply, and in reply 8 the raster index of the refused macroblock; else 0.
+pub struct StillReply {
+    pub reply: u32,
+    pub index: usize,
+}
+
+// The four pixels above right of the last column of macroblock row `row`, as given; zeros for the first row.
+fn right_of(right: &[u8], row: usize) -> [u8; 4]
+    requires { ⌜ 4 * row ≤ length (now right) ⌝ }
+    ensures { λ r. ⌜ r ≡ rightAt (now (right .entry)) row ⌝ }
+{
+    if row == 0 {
+        return [0u8; 4];
+    }
+    let at = 4 * (row - 1);
+    slices::four(&right[at..at + 4])
+}
+
+// Macroblock k of the picture.
+fn draw_at(
+    k: usize,
+    cols: usize,
+    rows: usize,
+    modes: &[u8],
+    sub_modes: &[u8],
+    coeffs: &[i16],
+    right: [u8; 4],
+    y: &mut [u8],
+    u: &mut [u8],
+    v: &mut [u8],
+) -> u32
+    requires { ⌜ (0 < cols) × (3 * k + 3 ≤ length (now modes)) × (16 * k + 16 ≤ length (now «sub_modes»)) × (400 * k + 400 ≤ length (now coeffs)) ⌝ }
+    ensures { λ r. ⌜ (r beside now (y .exit) beside now (u .exit) beside now (v .exit))
+        ≡ drawnAt cols rows (now (modes .entry)) (now («sub_modes» .entry)) (now (coeffs .entry)) (λ r y. right) k (now (y .entry)) (now (u .entry)) (now (v .entry)) ⌝ }
+{
+    let luma = modes[3 * k];
+    let chroma = modes[3 * k + 1];
+    let skip = modes[3 * k + 2];
+    let subs = slices::sixteen(&sub_modes[16 * k..16 * k + 16]);
+    let levels = &coeffs[400 * k..400 * k + 400];
+    canvas::draw_macroblock(
+        cols,
+        rows,
+        k % cols,
+        k / cols,
+        luma,
+        chroma,
+        skip,
+        subs,
+        right,
+        levels,
+        y,
+        u,
+        v,
+    )
+}
+
+// The macroblocks of a picture that fits its slices, the right-hand pixels given.
+fn draw_given(
+    cols: usize,
+    rows: usize,
+    modes: &[u8],
+    sub_modes: &[u8],
+    coeffs: &[i16],
+    right: &[u8],
+    y: &mut [u8],
+    u: &mut [u8],
+    v: &mut [u8],
+) -> StillReply
+    requires { ⌜ Fits cols rows (length (now modes)) (length (now «sub_modes»)) (length (now coeffs)) × (4 * rows ≡ length (now right) + 4) ⌝ }
+    ensures { λ r. ⌜ told r (now (y .exit)) (now (u .exit)) (now (v .exit))
+        ≡ picture cols rows (now (modes .entry)) (now («sub_modes» .entry)) (now (coeffs .entry)) (rightGiven (now (right .entry)))
+        (now (y .entry)) (now (u .entry)) (now (v .entry)) ⌝ }
+{
+    let n = cols * rows;
+    for k in 0..n {
+        let pixels = right_of(right, k / cols);
+        let reply = draw_at(k, cols, rows, modes, sub_modes, coeffs, pixels, y, u, v);
+        if reply != reply::DONE {
+            return StillReply { reply, index: k };
+        }
+    }
+    StillReply {
+        reply: reply::DONE,
+        index: 0,
+    }
+}
+
+// The same, the right-hand pixels read from the luma plane as it stands.
+fn draw_alone(
+    cols: usize,
+    rows: usize,
+    modes: &[u8],
+    sub_modes: &[u8],
+    coeffs: &[i16],
+    y: &mut [u8],
+    u: &mut [u8],
+    v: &mut [u8],
+) -> StillReply
+    requires { ⌜ Fits cols rows (length (now modes)) (length (now «sub_modes»)) (length (now coeffs)) ⌝ }
+    ensures { λ r. ⌜ told r (now (y .exit)) (now (u .exit)) (now (v .exit))
+        ≡ picture cols rows (now (modes .entry)) (now («sub_modes» .entry)) (now (coeffs .entry)) (rightRead cols rows)
+        (now (y .entry)) (now (u .entry)) (now (v .entry)) ⌝ }
+{
+    let n = cols * rows;
+    for k in 0..n {
+        let read = right_pixels::right_pixels(y, cols, rows, k / cols);
+        let pixels = read.pixels;
+        let reply = draw_at(k, cols, rows, modes, sub_modes, coeffs, pixels, y, u, v);
+        if reply != reply::DONE {
+            return StillReply { reply, index: k };
+        }
+    }
+    StillReply {
+        reply: reply::DONE,
+        index: 0,
+    }
+}
+
+fn size_ok(cols: usize, rows: usize) -> bool
+    ensures { λ r. ⌜ r ≡ sizeOk cols rows ⌝ }
+{
+    picture_limits::place_ok(cols, rows, 0, 0)
+}
+
+fn lengths_ok(
+    cols: usize,
+    rows: usize,
+    modes: usize,
+    sub_modes: usize,
+    coeffs: usize,
+    y: usize,
+    u: usize,
+    v: usize,
+) -> bool
+    requires { ⌜ sizeOk cols rows ≡ true ⌝ }
+    ensures { λ r. ⌜ r ≡ lengthsOk cols rows modes «sub_modes» coeffs y u v ⌝ }
+{
+    let n = cols * rows;
+    if modes != 3 * n {
+        return false;
+    }
+    if sub_modes != 16 * n {
+        return false;
+    }
+    if coeffs != 400 * n {
+        return false;
+    }
+    picture_limits::sizes_ok(y, u, v, cols, rows)
+}
+
+// A still of `cols` by `rows` macroblocks: three mode bytes, sixteen sub-block bytes and 400 coefficients a macroblock; the
+// right-hand pixels, four for each macroblock row after the first; and the planes to fill. Refused: a side that is not 1 to
+// 1,024 (reply 7), then any slice of another length (1), both before anything is drawn; then the first macroblock with an
+// unknown mode, sub-block mode or skip byte (8), the finished ones kept and all other bytes as found.
+pub fn still(
+    cols: usize,
+    rows: usize,
+    modes: &[u8],
+    sub_modes: &[u8],
+    coeffs: &[i16],
+    right: &[u8],
+    y: &mut [u8],
+    u: &mut [u8],
+    v: &mut [u8],
+) -> StillReply
+    ensures { λ r. ⌜ told r (now (y .exit)) (now (u .exit)) (now (v .exit))
+        ≡ stillAnswer cols rows (now (modes .entry)) (now («sub_modes» .entry)) (now (coeffs .entry)) (now (right .entry))
+        (now (y .entry)) (now (u .entry)) (now (v .entry)) ⌝ }
+{
+    if !size_ok(cols, rows) {
+        return StillReply {
+            reply: reply::OUTSIDE_PICTURE,
+            index: 0,
+        };
+    }
+    let fit = lengths_ok(
+        cols,
+        rows,
+        modes.len(),
+        sub_modes.len(),
+        coeffs.len(),
+        y.len(),
+        u.len(),
+        v.len(),
+    );
+    if !fit {
+        return StillReply {
+            reply: reply::WRONG_LENGTH,
+            index: 0,
+        };
+    }
+    if right.len() != 4 * (rows - 1) {
+        return StillReply {
+            reply: reply::WRONG_LENGTH,
+            index: 0,
+        };
+    }
+    draw_given(cols, rows, modes, sub_modes, coeffs, right, y, u, v)
+}
+
+// The same for a still that comes without right-hand pixels: they are four copies of the last pixel of the row above.
+pub fn still_alone(
+    cols: usize,
+    rows: usize,
+    modes: &[u8],
+    sub_modes: &[u8],
+    coeffs: &[i16],
+    y: &mut [u8],
+    u: &mut [u8],
+    v: &mut [u8],
+) -> StillReply
+    ensures { λ r. ⌜ told r (now (y .exit)) (now (u .exit)) (now (v .exit))
+        ≡ aloneAnswer cols rows (now (modes .entry)) (now («sub_modes» .entry)) (now (coeffs .entry))
+        (now (y .entry)) (now (u .entry)) (now (v .entry)) ⌝ }
+{
+    if !size_ok(cols, rows) {
+        return StillReply {
+            reply: reply::OUTSIDE_PICTURE,
+            index: 0,
+        };
+    }
+    let fit = lengths_ok(
+        cols,
+        rows,
+        modes.len(),
+        sub_modes.len(),
+        coeffs.len(),
+        y.len(),
+        u.len(),
+        v.len(),
+    );
+    if !fit {
+        return StillReply {
+            reply: reply::WRONG_LENGTH,
+            index: 0,
+        };
+    }
+    draw_alone(cols, rows, modes, sub_modes, coeffs, y, u, v)
+}

@@ -1,0 +1,2 @@
+-- The answer of a still as one number.
+pub mod Numbers

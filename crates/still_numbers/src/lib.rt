@@ -1,0 +1,52 @@
+// The still calls with their answer as one number: the raster index times 256, plus the reply.
+ghost use mathlib.Core.Path.{_≡_};
+ghost use Prim.Native.Nat.{_+_, _*_, _≤_};
+ghost use Rattle.slices.specs.Copies.{_beside_};
+ghost use Rattle.still_numbers.specs.Numbers.{stillNumber, aloneNumber};
+use still::StillReply;
+
+fn number(told: StillReply) -> u64
+    requires { ⌜ told .index ≤ 1048576 ⌝ }
+    ensures { λ r. ⌜ r ≡ told .index * 256 + told .reply ⌝ }
+{
+    told.index as u64 * 256 + told.reply as u64
+}
+
+// `still::still`.
+pub fn still(
+    cols: usize,
+    rows: usize,
+    modes: &[u8],
+    sub_modes: &[u8],
+    coeffs: &[i16],
+    right: &[u8],
+    y: &mut [u8],
+    u: &mut [u8],
+    v: &mut [u8],
+) -> u64
+    ensures { λ r. ⌜ (r beside now (y .exit) beside now (u .exit) beside now (v .exit))
+        ≡ stillNumber cols rows (now (modes .entry)) (now («sub_modes» .entry)) (now (coeffs .entry)) (now (right .entry))
+        (now (y .entry)) (now (u .entry)) (now (v .entry)) ⌝ }
+{
+    let told = still::still(cols, rows, modes, sub_modes, coeffs, right, y, u, v);
+    number(told)
+}
+
+// `still::still_alone`.
+pub fn still_alone(
+    cols: usize,
+    rows: usize,
+    modes: &[u8],
+    sub_modes: &[u8],
+    coeffs: &[i16],
+    y: &mut [u8],
+    u: &mut [u8],
+    v: &mut [u8],
+) -> u64
+    ensures { λ r. ⌜ (r beside now (y .exit) beside now (u .exit) beside now (v .exit))
+        ≡ aloneNumber cols rows (now (modes .entry)) (now («sub_modes» .entry)) (now (coeffs .entry))
+        (now (y .entry)) (now (u .entry)) (now (v .entry)) ⌝ }
+{
+    let told = still::still_alone(cols, rows, modes, sub_modes, coeffs, y, u, v);
+    number(told)
+}

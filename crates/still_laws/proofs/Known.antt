@@ -9,13 +9,12 @@ use borrow.Author.Tests.{eqb-true, eqb-false, eq-eqb}
 use lib.Dec.{eqb}
 use lib.IntN.{ℤ}
 use lib.ListN.{length, drop, length-drop}
-use Rattle.lists.specs.Lists.{turns, pick, both}
+use Rattle.lists.specs.Lists.{pick, both}
 use Rattle.macroblock.specs.Reply.{done, unknownByte}
 use Rattle.macroblock.specs.declared.neighbors.MbNeighbors.{MbNeighbors}
 use Rattle.mode_bytes.specs.Says.{yReply, yMode}
 use Rattle.record_bytes.specs.Bytes.{within}
 use Rattle.rfc6386.specs.Edges.{isB}
-use Rattle.sub_blocks.specs.Reach.{passes}
 use Rattle.reconstruct.specs.declared.ReconstructedMb.{ReconstructedMb}
 use Rattle.reconstruct.specs.Answers.{refusal, wholeOf, partsOf, nonB, walkB}
 use Rattle.drawing.specs.Drawn.{modesKnown, modesOf, drawnB, drawnIn, drawn}
@@ -29,11 +28,6 @@ use Rattle.still_laws.proofs.Unread.{luma-says}
 use Rattle.still_laws.proofs.Walked.{mode-B, luma-known}
 
 -- ---- one macroblock
--- no window passes the end of the work buffer
-buffer-kept : passes 357 ≡ false
-unfolding passes turns
-buffer-kept = refl
-
 module _ (luma chroma skip : ℕ) (subs : List ℕ) (n : MbNeighbors) (coeffs : List ℤ) (fits : length coeffs ≡ 400) where
   abbrev answer : ReconstructedMb
   answer = drawn luma chroma skip subs true n coeffs
@@ -51,7 +45,7 @@ module _ (luma chroma skip : ℕ) (subs : List ℕ) (n : MbNeighbors) (coeffs : 
 
   in-B : modesKnown luma chroma skip ≡ true → luma ≡ 4 → (t : Bool) → within 9 16 subs ≡ t → answer .reply ≡ pick t done unknownByte
   unfolding drawn drawnIn drawnB modesOf walkB partsOf refusal
-  in-B e l true s = rw (eq-eqb (length coeffs) 400 fits, e, l, mode-B, s, eq-eqb (length (drop 16 coeffs)) 384 rest, buffer-kept)
+  in-B e l true s = rw (eq-eqb (length coeffs) 400 fits, e, l, mode-B, s, eq-eqb (length (drop 16 coeffs)) 384 rest)
   in-B e l false s = rw (eq-eqb (length coeffs) 400 fits, e, l, mode-B, s)
 
   by-bytes : (m s t : Bool) → modesKnown luma chroma skip ≡ m → eqb luma 4 ≡ s → within 9 16 subs ≡ t

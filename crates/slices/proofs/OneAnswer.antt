@@ -23,8 +23,8 @@ use Rattle.slices.proofs.put_sub_block.Reads as put-sub-block
 use Rattle.slices.proofs.put_sub_block.Kinds as put-sub-block-k
 use Rattle.slices.proofs.put_record.Reads as put-record
 use Rattle.slices.proofs.put_record.Kinds as put-record-k
-use Rattle.slices.proofs.record.Reads as read-record
-use Rattle.slices.proofs.record.Kinds as read-record-k
+use Rattle.slices.proofs.record_of.Reads as record-of
+use Rattle.slices.proofs.record_of.Kinds as record-of-k
 use Rattle.slices.proofs.four.Reads as four
 use Rattle.slices.proofs.four.Kinds as four-k
 
@@ -61,8 +61,8 @@ put-chroma-one κs a x y s t p q = (refl, same p q)
 pub put-sub-block-one : OneAnswerIn 1 put-sub-block-k.ps put-sub-block-k.r put-sub-block.Post (λ κs s. s .0 .now)
 put-sub-block-one κs a x y s t p q = (refl, same p q)
 
-pub put-record-one : OneAnswerIn 1 put-record-k.ps put-record-k.r put-record.Post (λ κs s. s .0 .now)
-put-record-one κs a x y s t p q = (refl, same p q)
+pub put-record-of-one : OneAnswerIn 1 put-record-k.ps put-record-k.r put-record.Post (λ κs s. s .0 .now)
+put-record-of-one κs a x y s t p q = (refl, same p q)
 
-pub record-one : OneAnswer 1 read-record-k.ps read-record-k.r read-record.Post
-record-one κs a x y s t = same
+pub record-of-one : OneAnswer 1 record-of-k.ps record-of-k.r record-of.Post
+record-of-one κs a x y s t = same

@@ -113,7 +113,7 @@ pub fn put_sub_block(to: &mut [u8], block: [u8; 16])
 }
 
 // A neighbour record's 81 bytes, read and written.
-pub fn record(from: &[u8]) -> [u8; 81]
+pub fn record_of(from: &[u8]) -> [u8; 81]
     ensures { λ r. ⌜ r ≡ orZeros 0 81 (now (from .entry)) ⌝ }
 {
     let mut a = [0u8; 81];

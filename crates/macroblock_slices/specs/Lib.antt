@@ -1,0 +1,2 @@
+-- One macroblock over lent slices.
+pub mod Answers

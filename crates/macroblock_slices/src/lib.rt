@@ -1,0 +1,92 @@
+// One macroblock over lent slices; `edges` is its neighbour record as 81 bytes.
+ghost use mathlib.Core.Path.{_≡_};
+ghost use mathlib.Core.List.{_++_};
+ghost use lib.ListN.{length};
+ghost use Rattle.slices.specs.Copies.{_beside_};
+ghost use Rattle.macroblock_slices.specs.Answers.{subModesFit, lengthsFit, mbAnswer};
+use macroblock::reply;
+
+fn sub_modes_fit(sub_modes: usize) -> bool
+    ensures { λ r. ⌜ r ≡ subModesFit «sub_modes» ⌝ }
+{
+    if sub_modes == 16 {
+        return true;
+    }
+    sub_modes == 0
+}
+
+fn lengths_fit(modes: usize, sub_modes: usize, edges: usize, coeffs: usize, out: usize) -> bool
+    ensures { λ r. ⌜ r ≡ lengthsFit modes «sub_modes» edges coeffs out ⌝ }
+{
+    if modes != 3 {
+        return false;
+    }
+    if !sub_modes_fit(sub_modes) {
+        return false;
+    }
+    if edges != 81 {
+        return false;
+    }
+    if coeffs != 400 {
+        return false;
+    }
+    out == 384
+}
+
+// Y, U and V, one after another.
+fn lay(out: &mut [u8], y: [u8; 256], u: [u8; 64], v: [u8; 64])
+    requires { ⌜ length (now out) ≡ 384 ⌝ }
+    ensures { λ _. ⌜ now (out .exit) ≡ y ++ (u ++ v) ⌝ }
+{
+    slices::put_luma(&mut out[0..256], y);
+    slices::put_chroma(&mut out[256..320], u);
+    slices::put_chroma(&mut out[320..384], v);
+}
+
+// The macroblock that the bytes stand for, 384 pixels: Y, U, V. Refused, in this order: a slice of another length (reply 1,
+// nothing written), a mode, skip or mark byte that says nothing, in luma mode B a sub-block byte too (8, zeros written),
+// luma mode B without sub-block modes (4, zeros written).
+pub fn macroblock(
+    modes: &[u8],
+    sub_modes: &[u8],
+    edges: &[u8],
+    coeffs: &[i16],
+    out: &mut [u8],
+) -> u32
+    ensures { λ r. ⌜ (r beside now (out .exit))
+        ≡ mbAnswer (now (modes .entry)) (now («sub_modes» .entry)) (now (edges .entry)) (now (coeffs .entry)) (now (out .entry)) ⌝ }
+{
+    if !lengths_fit(
+        modes.len(),
+        sub_modes.len(),
+        edges.len(),
+        coeffs.len(),
+        out.len(),
+    ) {
+        return reply::WRONG_LENGTH;
+    }
+    let bytes = slices::record_of(edges);
+    if !record_bytes::marks_known(bytes) {
+        slices::clear(out);
+        return reply::UNKNOWN_BYTE;
+    }
+    let subs = slices::sixteen(sub_modes);
+    let neighbors = record_bytes::neighbors_of(bytes);
+    let luma = modes[0];
+    let chroma = modes[1];
+    let skip = modes[2];
+    let drawn = drawing::draw(
+        luma,
+        chroma,
+        skip,
+        subs,
+        sub_modes.len() == 16,
+        neighbors,
+        coeffs,
+    );
+    let y = drawn.y;
+    let u = drawn.u;
+    let v = drawn.v;
+    lay(out, y, u, v);
+    drawn.reply
+}

@@ -1,0 +1,2 @@
+-- Each promise of the C interface admits one answer only.
+pub mod OneAnswer

@@ -1,0 +1,58 @@
+-- Each promise of the C interface admits one answer only, and leaves one thing only in what was lent. Assumes nothing.
+use Rattle.lists.proofs.Answer.{OneAnswerIn}
+use Rattle.slices.proofs.Pairs.{same-pair}
+use Rattle.zopredil.proofs.zopredil_y1_factors.Reads as y1-factors
+use Rattle.zopredil.proofs.zopredil_y1_factors.Kinds as y1-factors-k
+use Rattle.zopredil.proofs.zopredil_dequant_block.Reads as dequant-block
+use Rattle.zopredil.proofs.zopredil_dequant_block.Kinds as dequant-block-k
+use Rattle.zopredil.proofs.zopredil_inverse_wht.Reads as inverse-wht
+use Rattle.zopredil.proofs.zopredil_inverse_wht.Kinds as inverse-wht-k
+use Rattle.zopredil.proofs.zopredil_inverse_wht_dc_only.Reads as inverse-wht-dc-only
+use Rattle.zopredil.proofs.zopredil_inverse_wht_dc_only.Kinds as inverse-wht-dc-only-k
+use Rattle.zopredil.proofs.zopredil_inverse_dct.Reads as inverse-dct
+use Rattle.zopredil.proofs.zopredil_inverse_dct.Kinds as inverse-dct-k
+use Rattle.zopredil.proofs.zopredil_inverse_dct_add_into.Reads as inverse-dct-add-into
+use Rattle.zopredil.proofs.zopredil_inverse_dct_add_into.Kinds as inverse-dct-add-into-k
+use Rattle.zopredil.proofs.zopredil_add_residue.Reads as add-residue
+use Rattle.zopredil.proofs.zopredil_add_residue.Kinds as add-residue-k
+use Rattle.zopredil.proofs.zopredil_predict_y16x16.Reads as predict-y16x16
+use Rattle.zopredil.proofs.zopredil_predict_y16x16.Kinds as predict-y16x16-k
+use Rattle.zopredil.proofs.zopredil_predict_uv8x8.Reads as predict-uv8x8
+use Rattle.zopredil.proofs.zopredil_predict_uv8x8.Kinds as predict-uv8x8-k
+use Rattle.zopredil.proofs.zopredil_predict_b4x4.Reads as predict-b4x4
+use Rattle.zopredil.proofs.zopredil_predict_b4x4.Kinds as predict-b4x4-k
+use Rattle.zopredil.proofs.zopredil_macroblock.Reads as macroblock
+use Rattle.zopredil.proofs.zopredil_macroblock.Kinds as macroblock-k
+
+pub y1-factors-one : OneAnswerIn 1 y1-factors-k.ps y1-factors-k.r y1-factors.Post (λ κs s. s .1 .1 .0 .now)
+y1-factors-one κs a x y s t = same-pair
+
+pub dequant-block-one : OneAnswerIn 1 dequant-block-k.ps dequant-block-k.r dequant-block.Post (λ κs s. s .0 .now)
+dequant-block-one κs a x y s t = same-pair
+
+pub inverse-wht-one : OneAnswerIn 2 inverse-wht-k.ps inverse-wht-k.r inverse-wht.Post (λ κs s. s .1 .0 .now)
+inverse-wht-one κs a x y s t = same-pair
+
+pub inverse-wht-dc-only-one : OneAnswerIn 1 inverse-wht-dc-only-k.ps inverse-wht-dc-only-k.r inverse-wht-dc-only.Post (λ κs s. s .1 .0 .now)
+inverse-wht-dc-only-one κs a x y s t = same-pair
+
+pub inverse-dct-one : OneAnswerIn 2 inverse-dct-k.ps inverse-dct-k.r inverse-dct.Post (λ κs s. s .1 .0 .now)
+inverse-dct-one κs a x y s t = same-pair
+
+pub inverse-dct-add-into-one : OneAnswerIn 2 inverse-dct-add-into-k.ps inverse-dct-add-into-k.r inverse-dct-add-into.Post (λ κs s. s .1 .0 .now)
+inverse-dct-add-into-one κs a x y s t = same-pair
+
+pub add-residue-one : OneAnswerIn 3 add-residue-k.ps add-residue-k.r add-residue.Post (λ κs s. s .1 .1 .0 .now)
+add-residue-one κs a x y s t = same-pair
+
+pub predict-y16x16-one : OneAnswerIn 3 predict-y16x16-k.ps predict-y16x16-k.r predict-y16x16.Post (λ κs s. s .1 .1 .1 .1 .0 .now)
+predict-y16x16-one κs a x y s t = same-pair
+
+pub predict-uv8x8-one : OneAnswerIn 3 predict-uv8x8-k.ps predict-uv8x8-k.r predict-uv8x8.Post (λ κs s. s .1 .1 .1 .1 .0 .now)
+predict-uv8x8-one κs a x y s t = same-pair
+
+pub predict-b4x4-one : OneAnswerIn 3 predict-b4x4-k.ps predict-b4x4-k.r predict-b4x4.Post (λ κs s. s .1 .1 .1 .1 .0 .now)
+predict-b4x4-one κs a x y s t = same-pair
+
+pub macroblock-one : OneAnswerIn 5 macroblock-k.ps macroblock-k.r macroblock.Post (λ κs s. s .1 .1 .1 .1 .0 .now)
+macroblock-one κs a x y s t = same-pair

@@ -4,6 +4,7 @@ use crate::numbers::short;
 
 // What is in a slice before a function writes it.
 pub const FILL: u8 = 0xA5;
+
 pub const FILL_SHORT: i16 = -23131;
 
 fn narrow(reply: u32) -> usize {

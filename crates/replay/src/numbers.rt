@@ -19,6 +19,38 @@ pub fn byte(bytes: &[u8], at: usize) -> u8 {
     if at < bytes.len() { bytes[at] } else { 0 }
 }
 
+// The bytes from one place to another, and the first elements of a slice; all of it where it is shorter.
+pub fn part<'a>(bytes: &'a [u8], from: usize, to: usize) -> &'a [u8] {
+    if from > to {
+        return bytes;
+    }
+    if to > bytes.len() {
+        return bytes;
+    }
+    &bytes[from..to]
+}
+
+pub fn first_shorts<'a>(numbers: &'a [i16], n: usize) -> &'a [i16] {
+    if n > numbers.len() {
+        return numbers;
+    }
+    &numbers[0..n]
+}
+
+pub fn first_to_write<'a>(bytes: &'a mut [u8], n: usize) -> &'a mut [u8] {
+    if n > bytes.len() {
+        return bytes;
+    }
+    &mut bytes[0..n]
+}
+
+pub fn first_shorts_to_write<'a>(numbers: &'a mut [i16], n: usize) -> &'a mut [i16] {
+    if n > numbers.len() {
+        return numbers;
+    }
+    &mut numbers[0..n]
+}
+
 // One byte.
 pub fn count(bytes: &[u8], at: usize) -> usize
     ensures { λ r. ⌜ r ≤ 255 ⌝ }
@@ -80,7 +112,7 @@ pub fn fill(out: &mut [i16], x: i16) {
 // Sixteen times a place and the number to put there. Whether each place is in out.
 pub fn put_sixteen(bytes: &[u8], at: usize, out: &mut [i16]) -> bool {
     let mut next = at;
-    for _ in 0..16 {
+    for _ in 0..16usize {
         let place = length(bytes, next);
         if place >= out.len() {
             return false;

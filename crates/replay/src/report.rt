@@ -5,10 +5,15 @@ use crate::numbers::wide;
 
 // Outcomes.
 pub const GOING: u8 = 0;
+
 pub const WHOLE: u8 = 1;
+
 pub const DIFFERS: u8 = 2;
+
 pub const NO_KIND: u8 = 3;
+
 pub const CUT_SHORT: u8 = 4;
+
 pub const NO_END: u8 = 5;
 
 // The checksum of what was read, the number of records that agreed, and the kind of the last one that was read.
@@ -90,7 +95,8 @@ fn print_name(kind: usize) {
         16 => io::write_all(1, b"wrong lengths"),
         17 => io::write_all(1, b"right_pixels"),
         _ => io::write_all(1, b"no kind"),
-    };
+    }
+    ;
 }
 
 fn print_count(kind: usize, n: u64) {
@@ -114,7 +120,8 @@ fn print_outcome(outcome: u8) {
         CUT_SHORT => io::write_all(1, b": cut short\n"),
         NO_END => io::write_all(1, b": the end, and the checksum is wrong or bytes follow\n"),
         _ => io::write_all(1, b": no end\n"),
-    };
+    }
+    ;
 }
 
 // How many records of each kind agreed, and where the replay stopped: records are numbered from 0.

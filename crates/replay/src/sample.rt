@@ -18,7 +18,7 @@ fn end_follows(fd: i32, sum: Checksum) -> bool {
 }
 
 // Whether a record agrees. One of kind 13 is kept in `planes`, for those that follow.
-fn agrees(kind: u8, record: &[u8; 4096], planes: &mut [u8; 4096]) -> bool {
+fn agrees(kind: u8, record: &[u8], planes: &mut [u8]) -> bool {
     if kind == 13 {
         slices::copy(planes, record);
         return true;
@@ -27,23 +27,23 @@ fn agrees(kind: u8, record: &[u8; 4096], planes: &mut [u8; 4096]) -> bool {
 }
 
 // The rest of a record, after its kind.
-fn record_follows(fd: i32, planes: &mut [u8; 4096], before: Progress) -> Progress {
+fn record_follows(fd: i32, planes: &mut [u8], before: Progress) -> Progress {
     let n = kinds::length(before.kind);
     if n == 0 {
         return report::stopped(before, report::NO_KIND);
     }
     let mut record = io::buffer();
-    if io::read_full(fd, &mut record[..n]) != n {
+    if io::read_full(fd, numbers::first_to_write(&mut record, n)) != n {
         return report::stopped(before, report::CUT_SHORT);
     }
     if !agrees(before.kind, &record, planes) {
         return report::stopped(before, report::DIFFERS);
     }
-    report::agreed(before, &record[..n])
+    report::agreed(before, numbers::part(&record, 0, n))
 }
 
 // One record, or the end.
-fn turn(fd: i32, planes: &mut [u8; 4096], before: Progress) -> Progress {
+fn turn(fd: i32, planes: &mut [u8], before: Progress) -> Progress {
     let mut first = [0u8; 1];
     if io::read_full(fd, &mut first) != 1 {
         return report::stopped(before, report::CUT_SHORT);
@@ -65,7 +65,7 @@ pub fn replay(fd: i32) {
     let mut planes = io::buffer();
     let mut counts = [0u64; 18];
     let mut at = report::start();
-    for _ in 0..1000000 {
+    for _ in 0..1000000usize {
         if at.outcome != report::GOING {
             break;
         }

@@ -4,107 +4,86 @@ use crate::answers::FILL_SHORT;
 use crate::answers::agree;
 use crate::answers::agree_in_shorts;
 use crate::numbers::count;
+use crate::numbers::first_shorts;
+use crate::numbers::first_to_write;
 use crate::numbers::length;
 use crate::numbers::long;
+use crate::numbers::part;
 use crate::numbers::short;
 use crate::numbers::shorts;
 use crate::numbers::size;
 
-pub fn y1_factors(record: &[u8; 4096]) -> bool {
+pub fn y1_factors(record: &[u8]) -> bool {
     let mut out = [FILL_SHORT; 2];
     let reply = transform_slices::y1_factors(long(record, 0), long(record, 4), &mut out);
-    agree_in_shorts(&record[8..13], reply, &out)
+    agree_in_shorts(part(record, 8, 13), reply, &out)
 }
 
-pub fn dequant_block(record: &[u8; 4096]) -> bool {
+pub fn dequant_block(record: &[u8]) -> bool {
     let mut coeffs = [0i16; 16];
     shorts(record, 0, &mut coeffs);
     let reply = transform_slices::dequant_block(&mut coeffs, short(record, 32), short(record, 34));
-    agree_in_shorts(&record[36..69], reply, &coeffs)
+    agree_in_shorts(part(record, 36, 69), reply, &coeffs)
 }
 
-pub fn inverse_wht(record: &[u8; 4096]) -> bool {
+pub fn inverse_wht(record: &[u8]) -> bool {
     let mut input = [0i16; 16];
     shorts(record, 0, &mut input);
     let mut out = [FILL_SHORT; 16];
     let reply = transform_slices::inverse_wht(&input, &mut out);
-    agree_in_shorts(&record[32..65], reply, &out)
+    agree_in_shorts(part(record, 32, 65), reply, &out)
 }
 
-pub fn inverse_wht_dc_only(record: &[u8; 4096]) -> bool {
+pub fn inverse_wht_dc_only(record: &[u8]) -> bool {
     let mut out = [FILL_SHORT; 16];
     let reply = transform_slices::inverse_wht_dc_only(short(record, 0), &mut out);
-    agree_in_shorts(&record[2..35], reply, &out)
+    agree_in_shorts(part(record, 2, 35), reply, &out)
 }
 
-pub fn inverse_dct(record: &[u8; 4096]) -> bool {
+pub fn inverse_dct(record: &[u8]) -> bool {
     let mut input = [0i16; 16];
     shorts(record, 0, &mut input);
     let mut out = [FILL_SHORT; 16];
     let reply = transform_slices::inverse_dct(&input, &mut out);
-    agree_in_shorts(&record[32..65], reply, &out)
+    agree_in_shorts(part(record, 32, 65), reply, &out)
 }
 
 // Adds a record's block into the first bytes of plane, as many as the record says.
-fn add_into(record: &[u8; 4096], plane: &mut [u8]) -> u32 {
-    let n = length(record, 56);
-    if n > plane.len() {
-        return 255;
-    }
+fn add_into(record: &[u8], plane: &mut [u8]) -> u32 {
     let mut input = [0i16; 16];
     shorts(record, 0, &mut input);
-    let stride = size(record, 32);
-    let sub_row = size(record, 40);
-    let sub_col = size(record, 48);
-    transform_slices::inverse_dct_add_into(&input, &mut plane[..n], stride, sub_row, sub_col)
+    transform_slices::inverse_dct_add_into(
+        &input,
+        first_to_write(plane, length(record, 56)),
+        size(record, 32),
+        size(record, 40),
+        size(record, 48),
+    )
 }
 
-pub fn add_into_small(record: &[u8; 4096]) -> bool {
+pub fn add_into_small(record: &[u8]) -> bool {
     let mut plane = [0u8; 64];
-    slices::copy(&mut plane, &record[58..122]);
+    slices::copy(&mut plane, part(record, 58, 122));
     let reply = add_into(record, &mut plane);
-    agree(&record[122..187], reply, &plane)
+    agree(part(record, 122, 187), reply, &plane)
 }
 
-pub fn add_into_large(record: &[u8; 4096]) -> bool {
+pub fn add_into_large(record: &[u8]) -> bool {
     let mut plane = [0u8; 256];
-    slices::copy(&mut plane, &record[58..314]);
+    slices::copy(&mut plane, part(record, 58, 314));
     let reply = add_into(record, &mut plane);
-    agree(&record[314..571], reply, &plane)
+    agree(part(record, 314, 571), reply, &plane)
 }
 
-// The three slices of a record of kind 7, each as long as it says.
-fn add(
-    prediction: &[u8],
-    p: usize,
-    residue: &[i16],
-    r: usize,
-    out: &mut [u8],
-    o: usize,
-) -> u32 {
-    if p > prediction.len() {
-        return 255;
-    }
-    if r > residue.len() {
-        return 255;
-    }
-    if o > out.len() {
-        return 255;
-    }
-    transform_slices::add_residue(&prediction[..p], &residue[..r], &mut out[..o])
-}
-
-pub fn add_residue(record: &[u8; 4096]) -> bool {
+pub fn add_residue(record: &[u8]) -> bool {
     let mut residue = [0i16; 24];
     shorts(record, 27, &mut residue);
     let mut out = [FILL; 24];
-    let reply = add(
-        &record[3..27],
-        count(record, 0),
-        &residue,
-        count(record, 1),
-        &mut out,
-        count(record, 2),
+    let prediction = part(record, 3, 3 + count(record, 0));
+    let reply = transform_slices::add_residue(
+        prediction,
+        first_shorts(&residue, count(record, 1)),
+        first_to_write(&mut out, count(record, 2)),
     );
-    agree(&record[75..100], reply, &out)
+    agree(part(record, 75, 100), reply, &out)
 }

@@ -1,4 +1,5 @@
 // Records of wrong lengths: the call is refused, and nothing is written. Slices that are read hold zeros.
+ghost use Prim.Native.Nat.{_≤_};
 use crate::answers::FILL;
 use crate::answers::FILL_SHORT;
 use crate::answers::agree;
@@ -13,21 +14,25 @@ use crate::numbers::part;
 
 const NO_REPLY: u32 = 255;
 
-// A record's slices, of which a function is lent the first elements.
-fn transform(function: usize, record: &[u8], zeros: &[i16], out: &mut [i16]) -> u32 {
-    let a = length(record, 1);
-    let b = length(record, 3);
+fn transform(function: usize, read: &[i16], out: &mut [i16]) -> u32 {
     match function {
-        1 => transform_slices::y1_factors(0, 0, first_shorts_to_write(out, a)),
-        2 => transform_slices::dequant_block(first_shorts_to_write(out, a), 1, 1),
-        3 => {
-            transform_slices::inverse_wht(first_shorts(zeros, a), first_shorts_to_write(out, b))
-        }
-        4 => transform_slices::inverse_wht_dc_only(0, first_shorts_to_write(out, a)),
-        5 => {
-            transform_slices::inverse_dct(first_shorts(zeros, a), first_shorts_to_write(out, b))
-        }
+        1 => transform_slices::y1_factors(0, 0, out),
+        2 => transform_slices::dequant_block(out, 1, 1),
+        3 => transform_slices::inverse_wht(read, out),
+        4 => transform_slices::inverse_wht_dc_only(0, out),
+        5 => transform_slices::inverse_dct(read, out),
         _ => NO_REPLY,
+    }
+}
+
+// The number of the slice that one of these functions writes.
+fn written(function: usize) -> usize
+    ensures { λ r. ⌜ r ≤ 1 ⌝ }
+{
+    match function {
+        3 => 1,
+        5 => 1,
+        _ => 0,
     }
 }
 
@@ -97,7 +102,9 @@ fn right_pixels(record: &[u8], zeros: &[u8], out: &mut [u8]) -> u32 {
 fn in_shorts(function: usize, record: &[u8]) -> u32 {
     let zeros = [0i16; 512];
     let mut out = [FILL_SHORT; 512];
-    let reply = transform(function, record, &zeros, &mut out);
+    let n = length(record, 1 + 2 * written(function));
+    let read = first_shorts(&zeros, length(record, 1));
+    let reply = transform(function, read, first_shorts_to_write(&mut out, n));
     if !is_kept_in_shorts(&out) {
         return NO_REPLY;
     }

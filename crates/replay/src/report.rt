@@ -10,11 +10,7 @@ pub const WHOLE: u8 = 1;
 
 pub const DIFFERS: u8 = 2;
 
-pub const NO_KIND: u8 = 3;
-
-pub const CUT_SHORT: u8 = 4;
-
-pub const NO_END: u8 = 5;
+pub const NO_FORMAT: u8 = 3;
 
 // The checksum of what was read, the number of records that agreed, and the kind of the last one that was read.
 pub struct Progress {
@@ -75,33 +71,10 @@ pub fn count(counts: &mut [u64; 18], kind: u8) {
     }
 }
 
-fn print_name(kind: usize) {
-    match kind {
-        1 => io::write_all(1, b"y1_factors"),
-        2 => io::write_all(1, b"dequant_block"),
-        3 => io::write_all(1, b"inverse_wht"),
-        4 => io::write_all(1, b"inverse_wht_dc_only"),
-        5 => io::write_all(1, b"inverse_dct"),
-        6 => io::write_all(1, b"inverse_dct_add_into, small planes"),
-        7 => io::write_all(1, b"add_residue"),
-        8 => io::write_all(1, b"predict_y16x16"),
-        9 => io::write_all(1, b"predict_uv8x8"),
-        10 => io::write_all(1, b"predict_b4x4"),
-        11 => io::write_all(1, b"macroblock, 400 coefficients"),
-        12 => io::write_all(1, b"gather"),
-        13 => io::write_all(1, b"planes"),
-        14 => io::write_all(1, b"macroblock, few coefficients"),
-        15 => io::write_all(1, b"inverse_dct_add_into, larger planes"),
-        16 => io::write_all(1, b"wrong lengths"),
-        17 => io::write_all(1, b"right_pixels"),
-        _ => io::write_all(1, b"no kind"),
-    }
-    ;
-}
-
 fn print_count(kind: usize, n: u64) {
-    print_name(kind);
-    io::write_all(1, b" ");
+    io::write_all(1, b"kind ");
+    io::print_decimal(1, kind as u64);
+    io::write_all(1, b": ");
     io::print_decimal(1, n);
     io::write_all(1, b"\n");
 }
@@ -113,15 +86,13 @@ fn print_counts(counts: &[u64; 18]) {
 }
 
 fn print_outcome(outcome: u8) {
-    match outcome {
-        WHOLE => io::write_all(1, b": the end, and the checksum is right\n"),
-        DIFFERS => io::write_all(1, b": another answer\n"),
-        NO_KIND => io::write_all(1, b": no such kind\n"),
-        CUT_SHORT => io::write_all(1, b": cut short\n"),
-        NO_END => io::write_all(1, b": the end, and the checksum is wrong or bytes follow\n"),
-        _ => io::write_all(1, b": no end\n"),
+    if outcome == WHOLE {
+        io::write_all(1, b": the end, and the checksum is right\n");
+    } else if outcome == DIFFERS {
+        io::write_all(1, b": another answer\n");
+    } else {
+        io::write_all(1, b": not of the format, or the checksum is wrong\n");
     }
-    ;
 }
 
 // How many records of each kind agreed, and where the replay stopped: records are numbered from 0.

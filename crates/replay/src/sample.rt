@@ -30,11 +30,11 @@ fn agrees(kind: u8, record: &[u8], planes: &mut [u8]) -> bool {
 fn record_follows(fd: i32, planes: &mut [u8], before: Progress) -> Progress {
     let n = kinds::length(before.kind);
     if n == 0 {
-        return report::stopped(before, report::NO_KIND);
+        return report::stopped(before, report::NO_FORMAT);
     }
     let mut record = io::buffer();
     if io::read_full(fd, numbers::first_to_write(&mut record, n)) != n {
-        return report::stopped(before, report::CUT_SHORT);
+        return report::stopped(before, report::NO_FORMAT);
     }
     if !agrees(before.kind, &record, planes) {
         return report::stopped(before, report::DIFFERS);
@@ -46,7 +46,7 @@ fn record_follows(fd: i32, planes: &mut [u8], before: Progress) -> Progress {
 fn turn(fd: i32, planes: &mut [u8], before: Progress) -> Progress {
     let mut first = [0u8; 1];
     if io::read_full(fd, &mut first) != 1 {
-        return report::stopped(before, report::CUT_SHORT);
+        return report::stopped(before, report::NO_FORMAT);
     }
     let kind = first[0];
     let at = report::with_kind(before, kind);
@@ -57,7 +57,7 @@ fn turn(fd: i32, planes: &mut [u8], before: Progress) -> Progress {
     if end_follows(fd, sum) {
         return report::stopped(at, report::WHOLE);
     }
-    report::stopped(at, report::NO_END)
+    report::stopped(at, report::NO_FORMAT)
 }
 
 // A proved loop has to end, and nothing says that a file does: this one takes a million records at most.

@@ -1,4 +1,5 @@
 // Records of the transforms.
+ghost use Prim.Native.Nat.{_≤_};
 use crate::answers::FILL;
 use crate::answers::FILL_SHORT;
 use crate::answers::agree;
@@ -48,31 +49,27 @@ pub fn inverse_dct(record: &[u8]) -> bool {
     agree_in_shorts(part(record, 32, 65), reply, &out)
 }
 
-// Adds a record's block into the first bytes of plane, as many as the record says.
-fn add_into(record: &[u8], plane: &mut [u8]) -> u32 {
+// A record of a plane of n bytes, of which it says how many are lent.
+pub fn add_into(record: &[u8], n: usize) -> bool
+    requires { ⌜ n ≤ 256 ⌝ }
+{
     let mut input = [0i16; 16];
     shorts(record, 0, &mut input);
-    transform_slices::inverse_dct_add_into(
+    let mut plane = [0u8; 256];
+    let after = 58 + n;
+    slices::copy(first_to_write(&mut plane, n), part(record, 58, after));
+    let reply = transform_slices::inverse_dct_add_into(
         &input,
-        first_to_write(plane, length(record, 56)),
+        first_to_write(&mut plane, length(record, 56)),
         size(record, 32),
         size(record, 40),
         size(record, 48),
+    );
+    agree(
+        part(record, after, after + 1 + n),
+        reply,
+        part(&plane, 0, n),
     )
-}
-
-pub fn add_into_small(record: &[u8]) -> bool {
-    let mut plane = [0u8; 64];
-    slices::copy(&mut plane, part(record, 58, 122));
-    let reply = add_into(record, &mut plane);
-    agree(part(record, 122, 187), reply, &plane)
-}
-
-pub fn add_into_large(record: &[u8]) -> bool {
-    let mut plane = [0u8; 256];
-    slices::copy(&mut plane, part(record, 58, 314));
-    let reply = add_into(record, &mut plane);
-    agree(part(record, 314, 571), reply, &plane)
 }
 
 pub fn add_residue(record: &[u8]) -> bool {

@@ -37,9 +37,9 @@ pub fn agrees(kind: u8, record: &[u8], planes: &[u8]) -> bool {
     match kind {
         1 => transforms::y1_factors(record),
         2 => transforms::dequant_block(record),
-        3 => transforms::inverse_wht(record),
+        3 => transforms::inverse(record, true),
         4 => transforms::inverse_wht_dc_only(record),
-        5 => transforms::inverse_dct(record),
+        5 => transforms::inverse(record, false),
         6 => transforms::add_into(record, 64),
         7 => transforms::add_residue(record),
         8 => predictions::predict_y16x16(record),

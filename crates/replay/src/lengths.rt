@@ -1,5 +1,4 @@
 // Records of wrong lengths: the call is refused, and nothing is written. Slices that are read hold zeros.
-ghost use Prim.Native.Nat.{_≤_};
 use crate::answers::FILL;
 use crate::answers::FILL_SHORT;
 use crate::answers::agree;
@@ -14,7 +13,33 @@ use crate::numbers::part;
 
 const NO_REPLY: u32 = 255;
 
-fn transform(function: usize, read: &[i16], out: &mut [i16]) -> u32 {
+// Where a record has the length of the slice that a function writes.
+fn written(function: usize) -> usize {
+    match function {
+        1 => 1,
+        2 => 1,
+        3 => 3,
+        4 => 1,
+        5 => 3,
+        6 => 3,
+        11 => 9,
+        12 => 9,
+        13 => 3,
+        _ => 5,
+    }
+}
+
+// And of the shorts that it reads.
+fn shorts_read(function: usize) -> usize {
+    match function {
+        7 => 3,
+        11 => 7,
+        _ => 1,
+    }
+}
+
+// A function that writes shorts, of slices as long as a record says.
+fn in_shorts(function: usize, read: &[i16], out: &mut [i16]) -> u32 {
     match function {
         1 => transform_slices::y1_factors(0, 0, out),
         2 => transform_slices::dequant_block(out, 1, 1),
@@ -25,123 +50,65 @@ fn transform(function: usize, read: &[i16], out: &mut [i16]) -> u32 {
     }
 }
 
-// The number of the slice that one of these functions writes.
-fn written(function: usize) -> usize
-    ensures { λ r. ⌜ r ≤ 1 ⌝ }
-{
+// A function that writes bytes: the slices at the lengths 1 to 4 of a record, the shorts that are read, the bytes that
+// are written.
+fn in_bytes(
+    function: usize,
+    a: &[u8],
+    b: &[u8],
+    c: &[u8],
+    d: &[u8],
+    read: &[i16],
+    out: &mut [u8],
+) -> u32 {
     match function {
-        3 => 1,
-        5 => 1,
-        _ => 0,
-    }
-}
-
-fn add(function: usize, record: &[u8], zeros: &[u8], shorts: &[i16], out: &mut [u8]) -> u32 {
-    let a = length(record, 1);
-    let b = length(record, 3);
-    let c = length(record, 5);
-    match function {
-        6 => transform_slices::inverse_dct_add_into(
-            first_shorts(shorts, a),
-            first_to_write(out, b),
-            4,
-            0,
-            0,
-        ),
-        7 => transform_slices::add_residue(
-            part(zeros, 0, a),
-            first_shorts(shorts, b),
-            first_to_write(out, c),
-        ),
+        6 => transform_slices::inverse_dct_add_into(read, out, 4, 0, 0),
+        7 => transform_slices::add_residue(a, read, out),
+        8 => predict_slices::predict_y16x16(0, a, b, 0, out),
+        9 => predict_slices::predict_uv8x8(0, a, b, 0, out),
+        10 => predict_slices::predict_b4x4(0, a, b, 0, out),
+        11 => macroblock_slices::macroblock(a, b, c, read, out),
+        12 => gather_bytes::gather_bytes(a, b, c, 1, 1, 0, 0, d, out),
+        13 => right_pixels::right_pixels_into(a, 1, 2, 1, out),
         _ => NO_REPLY,
     }
 }
 
-fn predict(function: usize, record: &[u8], zeros: &[u8], out: &mut [u8]) -> u32 {
-    let above = part(zeros, 0, length(record, 1));
-    let left = part(zeros, 0, length(record, 3));
-    let lent = first_to_write(out, length(record, 5));
-    match function {
-        8 => predict_slices::predict_y16x16(0, above, left, 0, lent),
-        9 => predict_slices::predict_uv8x8(0, above, left, 0, lent),
-        10 => predict_slices::predict_b4x4(0, above, left, 0, lent),
-        _ => NO_REPLY,
-    }
-}
-
-fn macroblock(record: &[u8], zeros: &[u8], shorts: &[i16], out: &mut [u8]) -> u32 {
-    macroblock_slices::macroblock(
-        part(zeros, 0, length(record, 1)),
-        part(zeros, 0, length(record, 3)),
-        part(zeros, 0, length(record, 5)),
-        first_shorts(shorts, length(record, 7)),
-        first_to_write(out, length(record, 9)),
-    )
-}
-
-fn gather(record: &[u8], zeros: &[u8], out: &mut [u8]) -> u32 {
-    gather_bytes::gather_bytes(
-        part(zeros, 0, length(record, 1)),
-        part(zeros, 0, length(record, 3)),
-        part(zeros, 0, length(record, 5)),
-        1,
-        1,
-        0,
-        0,
-        part(zeros, 0, length(record, 7)),
-        first_to_write(out, length(record, 9)),
-    )
-}
-
-fn right_pixels(record: &[u8], zeros: &[u8], out: &mut [u8]) -> u32 {
-    let y = part(zeros, 0, length(record, 1));
-    right_pixels::right_pixels_into(y, 1, 2, 1, first_to_write(out, length(record, 3)))
-}
-
-// A function that writes shorts.
-fn in_shorts(function: usize, record: &[u8]) -> u32 {
-    let zeros = [0i16; 512];
+fn reply_in_shorts(function: usize, record: &[u8], read: &[i16]) -> u32 {
     let mut out = [FILL_SHORT; 512];
-    let n = length(record, 1 + 2 * written(function));
-    let read = first_shorts(&zeros, length(record, 1));
-    let reply = transform(function, read, first_shorts_to_write(&mut out, n));
+    let lent = first_shorts_to_write(&mut out, length(record, written(function)));
+    let reply = in_shorts(function, read, lent);
     if !is_kept_in_shorts(&out) {
         return NO_REPLY;
     }
     reply
 }
 
-// A function that writes bytes.
-fn call(function: usize, record: &[u8], zeros: &[u8], shorts: &[i16], out: &mut [u8]) -> u32 {
-    match function {
-        6 => add(function, record, zeros, shorts, out),
-        7 => add(function, record, zeros, shorts, out),
-        8 => predict(function, record, zeros, out),
-        9 => predict(function, record, zeros, out),
-        10 => predict(function, record, zeros, out),
-        11 => macroblock(record, zeros, shorts, out),
-        12 => gather(record, zeros, out),
-        13 => right_pixels(record, zeros, out),
-        _ => NO_REPLY,
-    }
-}
-
-fn in_bytes(function: usize, record: &[u8]) -> u32 {
-    let zeros = [0u8; 512];
-    let shorts = [0i16; 512];
+fn reply_in_bytes(function: usize, record: &[u8], read: &[i16], zeros: &[u8]) -> u32 {
+    let a = part(zeros, 0, length(record, 1));
+    let b = part(zeros, 0, length(record, 3));
+    let c = part(zeros, 0, length(record, 5));
+    let d = part(zeros, 0, length(record, 7));
     let mut out = [FILL; 512];
-    let reply = call(function, record, &zeros, &shorts, &mut out);
+    let lent = first_to_write(&mut out, length(record, written(function)));
+    let reply = in_bytes(function, a, b, c, d, read, lent);
     if !is_kept(&out) {
         return NO_REPLY;
     }
     reply
 }
 
+fn reply(function: usize, record: &[u8], read: &[i16]) -> u32 {
+    if function < 6 {
+        return reply_in_shorts(function, record, read);
+    }
+    let zeros = [0u8; 512];
+    reply_in_bytes(function, record, read, &zeros)
+}
+
 pub fn refused(record: &[u8]) -> bool {
     let function = count(record, 0);
-    let expected = part(record, 11, 12);
-    if function < 6 {
-        return agree(expected, in_shorts(function, record), b"");
-    }
-    agree(expected, in_bytes(function, record), b"")
+    let zeros = [0i16; 512];
+    let read = first_shorts(&zeros, length(record, shorts_read(function)));
+    agree(part(record, 11, 12), reply(function, record, read), b"")
 }

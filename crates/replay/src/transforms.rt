@@ -27,25 +27,25 @@ pub fn dequant_block(record: &[u8]) -> bool {
     agree_in_shorts(part(record, 36, 69), reply, &coeffs)
 }
 
-pub fn inverse_wht(record: &[u8]) -> bool {
-    let mut input = [0i16; 16];
-    shorts(record, 0, &mut input);
-    let mut out = [FILL_SHORT; 16];
-    let reply = transform_slices::inverse_wht(&input, &mut out);
-    agree_in_shorts(part(record, 32, 65), reply, &out)
-}
-
 pub fn inverse_wht_dc_only(record: &[u8]) -> bool {
     let mut out = [FILL_SHORT; 16];
     let reply = transform_slices::inverse_wht_dc_only(short(record, 0), &mut out);
     agree_in_shorts(part(record, 2, 35), reply, &out)
 }
 
-pub fn inverse_dct(record: &[u8]) -> bool {
+fn invert(is_wht: bool, input: &[i16], out: &mut [i16]) -> u32 {
+    if is_wht {
+        return transform_slices::inverse_wht(input, out);
+    }
+    transform_slices::inverse_dct(input, out)
+}
+
+// The WHT or the DCT.
+pub fn inverse(record: &[u8], is_wht: bool) -> bool {
     let mut input = [0i16; 16];
     shorts(record, 0, &mut input);
     let mut out = [FILL_SHORT; 16];
-    let reply = transform_slices::inverse_dct(&input, &mut out);
+    let reply = invert(is_wht, &input, &mut out);
     agree_in_shorts(part(record, 32, 65), reply, &out)
 }
 

@@ -1,6 +1,8 @@
 // An answer held to a record's expected bytes: the reply, then what stands in the written slice.
-use crate::numbers::count;
-use crate::numbers::part;
+ghost use mathlib.Core.Path.{_≡_};
+ghost use mathlib.Core.Bool.{true};
+ghost use mathlib.Core.List.{_∷_};
+use crate::numbers::byte;
 use crate::numbers::short;
 
 // What is in a slice before a function writes it.
@@ -8,20 +10,28 @@ pub const FILL: u8 = 0xA5;
 
 pub const FILL_SHORT: i16 = -23131;
 
-fn narrow(reply: u32) -> usize {
-    reply as usize
+fn wide(x: u8) -> u32
+    ensures { λ r. ⌜ r ≡ x ⌝ }
+{
+    x as u32
 }
 
-pub fn agree(expected: &[u8], reply: u32, out: &[u8]) -> bool {
-    if count(expected, 0) != narrow(reply) {
+pub fn agree(expected: &[u8], reply: u32, out: &[u8]) -> bool
+    ensures { λ r. ⌜ (r ≡ true → (reply ∷ now (out .entry)) ≡ now (expected .entry)) ⌝ }
+{
+    if expected.len() == 0 {
         return false;
     }
-    check::same(part(expected, 1, expected.len()), out)
+    let first = expected[0];
+    if wide(first) != reply {
+        return false;
+    }
+    check::same(&expected[1..], out)
 }
 
 // The same for a slice of shorts, each of them two expected bytes.
 pub fn agree_in_shorts(expected: &[u8], reply: u32, out: &[i16]) -> bool {
-    if count(expected, 0) != narrow(reply) {
+    if wide(byte(expected, 0)) != reply {
         return false;
     }
     let mut next = 1;

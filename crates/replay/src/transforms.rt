@@ -50,7 +50,7 @@ pub fn inverse(record: &[u8], is_wht: bool) -> bool {
 }
 
 // A record of a plane of n bytes, of which it says how many are lent.
-pub fn add_into(record: &[u8], n: usize) -> bool
+pub(crate) fn add_into(record: &[u8], n: usize) -> bool
     requires { ⌜ n ≤ 256 ⌝ }
 {
     let mut input = [0i16; 16];

@@ -16,6 +16,10 @@ use Rattle.still.specs.Picture.{Canvas, canvas, picture, rightGiven, rig
 abbrev pub told : StillReply → List ℕ → List ℕ → List ℕ → Canvas
 told r y u v = canvas (r .reply) (r .index) y u v
 
+-- a refusal before anything is drawn
+abbrev pub refusal : ℕ → StillReply
+refusal number = record { reply = number; index = 0 }
+
 -- each side 1 to 1,024
 unfoldable pub sizeOk : ℕ → ℕ → Bool
 sizeOk w h = placeOk w h 0 0

@@ -6,7 +6,7 @@ ghost use lib.ListN.{length};
 ghost use Rattle.slices.specs.Copies.{_beside_};
 ghost use Rattle.still.specs.Picture.{drawnAt, picture, rightAt, rightGiven, rightRead};
 ghost use Rattle.still.specs.Fits.{Fits};
-ghost use Rattle.still.specs.Answers.{sizeOk, lengthsOk, told, stillAnswer, aloneAnswer};
+ghost use Rattle.still.specs.Answers.{sizeOk, lengthsOk, told, refusal, stillAnswer, aloneAnswer};
 use macroblock::reply;
 
 // The reply, and in reply 8 the raster index of the refused macroblock; else 0.
@@ -128,6 +128,13 @@ fn draw_alone(
     }
 }
 
+// A refusal before anything is drawn.
+fn refused(reply: u32) -> StillReply
+    ensures { λ r. ⌜ r ≡ refusal reply ⌝ }
+{
+    StillReply { reply, index: 0 }
+}
+
 fn size_ok(cols: usize, rows: usize) -> bool
     ensures { λ r. ⌜ r ≡ sizeOk cols rows ⌝ }
 {
@@ -180,10 +187,7 @@ pub fn still(
         (now (y .entry)) (now (u .entry)) (now (v .entry)) ⌝ }
 {
     if !size_ok(cols, rows) {
-        return StillReply {
-            reply: reply::OUTSIDE_PICTURE,
-            index: 0,
-        };
+        return refused(reply::OUTSIDE_PICTURE);
     }
     let fit = lengths_ok(
         cols,
@@ -196,16 +200,10 @@ pub fn still(
         v.len(),
     );
     if !fit {
-        return StillReply {
-            reply: reply::WRONG_LENGTH,
-            index: 0,
-        };
+        return refused(reply::WRONG_LENGTH);
     }
     if right.len() != 4 * (rows - 1) {
-        return StillReply {
-            reply: reply::WRONG_LENGTH,
-            index: 0,
-        };
+        return refused(reply::WRONG_LENGTH);
     }
     draw_given(cols, rows, modes, sub_modes, coeffs, right, y, u, v)
 }
@@ -226,10 +224,7 @@ pub fn still_alone(
         (now (y .entry)) (now (u .entry)) (now (v .entry)) ⌝ }
 {
     if !size_ok(cols, rows) {
-        return StillReply {
-            reply: reply::OUTSIDE_PICTURE,
-            index: 0,
-        };
+        return refused(reply::OUTSIDE_PICTURE);
     }
     let fit = lengths_ok(
         cols,
@@ -242,10 +237,7 @@ pub fn still_alone(
         v.len(),
     );
     if !fit {
-        return StillReply {
-            reply: reply::WRONG_LENGTH,
-            index: 0,
-        };
+        return refused(reply::WRONG_LENGTH);
     }
     draw_alone(cols, rows, modes, sub_modes, coeffs, y, u, v)
 }

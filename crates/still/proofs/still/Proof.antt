@@ -11,14 +11,14 @@ use Rattle.still.proofs.still.Tie as tie
 
 returns : tie.Need-returns
 unfolding stillAnswer
-returns c = rw (sym (c .before .size-ok .ensures) ∙ not-true _ (c .if1 .taken)) refl
+returns c = rw (sym (c .before .before .size-ok .ensures) ∙ not-true _ (c .before .if1 .taken), c .refused .ensures) refl
 
 lengths-ok-requires : tie.Need-lengths-ok-requires
 lengths-ok-requires c κs = sym (c .before .size-ok .ensures) ∙ not-false _ (c .if1 .left)
 
 returns-2 : tie.Need-returns-2
 unfolding stillAnswer
-returns-2 c = rw (sym (c .before .before .before .size-ok .ensures) ∙ not-false _ (c .before .before .if1 .left), sym (c .before .lengths-ok .ensures) ∙ not-true _ (c .if2 .taken)) refl
+returns-2 c = rw (sym (c .before .before .before .before .size-ok .ensures) ∙ not-false _ (c .before .before .before .if1 .left), sym (c .before .before .lengths-ok .ensures) ∙ not-true _ (c .before .if2 .taken), c .refused2 .ensures) refl
 
 sub-if3 : tie.Need-sub-if3
 sub-if3 c = let p = size-says _ _ (sym (c .before .before .before .size-ok .ensures) ∙ not-false _ (c .before .before .if1 .left)) in omega (arith, p .row)
@@ -28,7 +28,7 @@ mul-if3 c = let p = size-says _ _ (sym (c .before .before .before .size-ok .ensu
 
 returns-3 : tie.Need-returns-3
 unfolding stillAnswer
-returns-3 c = rw (sym (c .before .before .before .before .size-ok .ensures) ∙ not-false _ (c .before .before .before .if1 .left), sym (c .before .before .lengths-ok .ensures) ∙ not-false _ (c .before .if2 .left), ne-eqb _ _ (c .if3 .taken)) refl
+returns-3 c = rw (sym (c .before .before .before .before .before .size-ok .ensures) ∙ not-false _ (c .before .before .before .before .if1 .left), sym (c .before .before .before .lengths-ok .ensures) ∙ not-false _ (c .before .before .if2 .left), ne-eqb _ _ (c .before .if3 .taken), c .refused3 .ensures) refl
 
 draw-given-requires : tie.Need-draw-given-requires
 draw-given-requires c κs =
@@ -45,11 +45,14 @@ still-spec =
     tie.close
     (tie.spec
     (λ c κs. tt)
+    (λ c κs. tt)
     returns
     lengths-ok-requires
+    (λ c κs. tt)
     returns-2
     sub-if3
     mul-if3
+    (λ c κs. tt)
     returns-3
     draw-given-requires
     (λ c. search needs)

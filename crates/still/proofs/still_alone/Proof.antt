@@ -11,14 +11,14 @@ use Rattle.still.proofs.still_alone.Tie as tie
 
 returns : tie.Need-returns
 unfolding aloneAnswer
-returns c = rw (sym (c .before .size-ok .ensures) ∙ not-true _ (c .if1 .taken)) refl
+returns c = rw (sym (c .before .before .size-ok .ensures) ∙ not-true _ (c .before .if1 .taken), c .refused .ensures) refl
 
 lengths-ok-requires : tie.Need-lengths-ok-requires
 lengths-ok-requires c κs = sym (c .before .size-ok .ensures) ∙ not-false _ (c .if1 .left)
 
 returns-2 : tie.Need-returns-2
 unfolding aloneAnswer
-returns-2 c = rw (sym (c .before .before .before .size-ok .ensures) ∙ not-false _ (c .before .before .if1 .left), sym (c .before .lengths-ok .ensures) ∙ not-true _ (c .if2 .taken)) refl
+returns-2 c = rw (sym (c .before .before .before .before .size-ok .ensures) ∙ not-false _ (c .before .before .before .if1 .left), sym (c .before .before .lengths-ok .ensures) ∙ not-true _ (c .before .if2 .taken), c .refused2 .ensures) refl
 
 draw-alone-requires : tie.Need-draw-alone-requires
 draw-alone-requires c κs = fits _ _ _ _ _ _ _ _ (sym (c .before .before .before .before .before .before .size-ok .ensures) ∙ not-false _ (c .before .before .before .before .before .if1 .left)) (sym (c .before .before .before .before .lengths-ok .ensures) ∙ not-false _ (c .before .before .before .if2 .left))
@@ -32,8 +32,10 @@ still-alone-spec =
     tie.close
     (tie.spec
     (λ c κs. tt)
+    (λ c κs. tt)
     returns
     lengths-ok-requires
+    (λ c κs. tt)
     returns-2
     draw-alone-requires
     (λ c. search needs)

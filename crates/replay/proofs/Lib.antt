@@ -1,0 +1,2 @@
+-- Laws of an answer. Assumes nothing.
+pub mod Whole

@@ -8,12 +8,12 @@
 //        L3=E0
 //
 // Eight of the modes are lines of means: a mode takes a line of values along an edge, in the RFC's order, and each place of
-// the sub-block has its number on the line. `line` draws them; the numbers stand drawn above each mode.
+// the sub-block has its number on the line. `line` draws them; the numbers stand drawn above each mode, and under a diagonal
+// mode's drawing the mean that each number has and the pixel of the edge that it is taken at.
 mod line;
 
 use intra_edges::predict_b4x4_dc;
 use intra_edges::predict_b4x4_tm;
-use line::avg2;
 use line::avg2p;
 use line::avg3;
 use line::avg3p;
@@ -166,6 +166,9 @@ fn he(l: [u8; 4], p: u8) -> [u8; 16]
 //        1  2  3  4
 //        2  3  4  5
 //        3  4  5  6
+//
+//        number  0   1   2   3   4   5   6
+//        avg3    A1  A2  A3  A4  A5  A6  A7
 fn ld(a: [u8; 8]) -> [u8; 16]
     ensures { λ r. ⌜ r ≡ rows 4 4 (subLd a) ⌝ }
 {
@@ -180,6 +183,9 @@ fn ld(a: [u8; 8]) -> [u8; 16]
 //        E2  2  3  4  5
 //        E1  1  2  3  4
 //        E0  0  1  2  3
+//
+//        number  0   1   2   3   4   5   6
+//        avg3    E1  E2  E3  E4  E5  E6  E7
 fn rd(e: [u8; 9]) -> [u8; 16]
     ensures { λ r. ⌜ r ≡ rows 4 4 (subRd e) ⌝ }
 {
@@ -194,6 +200,10 @@ fn rd(e: [u8; 9]) -> [u8; 16]
 //        E2  2  4  6  8
 //        E1  1  3  5  7
 //        E0  0  2  4  6
+//
+//        number  0   1   2   3   4   5   6   7   8   9
+//        avg2                E4      E5      E6      E7
+//        avg3    E2  E3  E4      E5      E6      E7
 fn vr(e: [u8; 9]) -> [u8; 16]
     ensures { λ r. ⌜ r ≡ rows 4 4 (subVr e) ⌝ }
 {
@@ -212,13 +222,18 @@ fn vr(e: [u8; 9]) -> [u8; 16]
     drawn(&line, [3, 2, 1, 0], 2)
 }
 
-// Down from A, one to the left in two rows: number 2c + r. The last two do not follow; avg2 at A4 and avg3 at A5 would.
+// Down from A, one to the left in two rows: number 2c + r. The last two leave the turn of avg2 and avg3; avg2 at A4 and avg3
+// at A5 would keep it.
 //
 //        A0 A1 A2 A3 A4 A5 A6 A7
 //        0  2  4  6
 //        1  3  5  7
 //        2  4  6  8
 //        3  5  7  9
+//
+//        number  0   1   2   3   4   5   6   7   8   9
+//        avg2    A0      A1      A2      A3
+//        avg3        A1      A2      A3      A4  A5  A6
 fn vl(a: [u8; 8]) -> [u8; 16]
     ensures { λ r. ⌜ r ≡ rows 4 4 (subVl a) ⌝ }
 {
@@ -233,6 +248,10 @@ fn vl(a: [u8; 8]) -> [u8; 16]
 //        E2  4  5  6  7
 //        E1  2  3  4  5
 //        E0  0  1  2  3
+//
+//        number  0   1   2   3   4   5   6   7   8   9
+//        avg2    E0      E1      E2      E3
+//        avg3        E1      E2      E3      E4  E5  E6
 fn hd(e: [u8; 9]) -> [u8; 16]
     ensures { λ r. ⌜ r ≡ rows 4 4 (subHd e) ⌝ }
 {
@@ -240,23 +259,30 @@ fn hd(e: [u8; 9]) -> [u8; 16]
     drawn(&line, [6, 4, 2, 0], 1)
 }
 
-// Right from L, one up in two columns: number z = c + 2r. L3 where L ends.
+// Right from L, one up in two columns: number z = c + 2r. L3 is repeated after itself; from 6 on it is the value.
 //
 //        L0  0  1  2  3
 //        L1  2  3  4  5
 //        L2  4  5  6  7
 //        L3  6  7  8  9
+//        L3
+//
+//        number  0   1   2   3   4   5   6   7   8   9
+//        avg2    L0      L1      L2
+//        avg3        L1      L2      L3
+//        pixel                           L3  L3  L3  L3
 fn hu(l: [u8; 4]) -> [u8; 16]
     ensures { λ r. ⌜ r ≡ rows 4 4 (subHu l) ⌝ }
 {
     let last = l[3];
+    let l = [l[0], l[1], l[2], last, last, last, last, last, last];
     let line = [
-        avg2(l[0], l[1]),
-        avg3(l[0], l[1], l[2]),
-        avg2(l[1], l[2]),
-        avg3(l[1], l[2], last),
-        avg2(l[2], last),
-        avg3(l[2], last, last),
+        avg2p(l, 0),
+        avg3p(l, 1),
+        avg2p(l, 1),
+        avg3p(l, 2),
+        avg2p(l, 2),
+        avg3p(l, 3),
         last,
         last,
         last,

@@ -12,19 +12,17 @@ returns c =
     let c4 = c6 .before .before in
     let c2 = c4 .before .before in
     rw (
-      c2 .before .avg2 .ensures,
-      c2 .avg3 .ensures,
-      c4 .before .avg22 .ensures,
-      c4 .avg32 .ensures,
-      c6 .before .avg23 .ensures,
-      c6 .avg33 .ensures,
+      c2 .before .avg2p .ensures,
+      c2 .avg3p .ensures,
+      c4 .before .avg2p2 .ensures,
+      c4 .avg3p2 .ensures,
+      c6 .before .avg2p3 .ensures,
+      c6 .avg3p3 .ensures,
     ) at (c .drawn .ensures)
 
 pub hu-spec : {M : Type 1} → statement M
 hu-spec =
     tie.close
     (tie.spec
-    (λ c. search needs) (λ c. search needs) (λ c. search needs) (λ c κs. search needs) (λ c. search needs) (λ c. search needs)
-    (λ c. search needs) (λ c κs. search needs) (λ c. search needs) (λ c. search needs) (λ c κs. search needs) (λ c. search needs)
-    (λ c. search needs) (λ c κs. search needs) (λ c. search needs) (λ c κs. search needs) (λ c. search needs) (λ c κs. search needs)
-    (λ c. search needs) (λ c κs. search needs) returns)
+    (λ c. search needs) (λ c. search needs) (λ c. search needs) (λ c. search needs) (λ c κs. search needs) (λ c κs. search needs)
+    (λ c κs. search needs) (λ c κs. search needs) (λ c κs. search needs) (λ c κs. search needs) (λ c. search needs) (λ c κs. search needs) returns)

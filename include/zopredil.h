@@ -49,6 +49,10 @@
  *
  * An absent pixel above or at the top-left counts as 127 and an absent pixel to the left as 129, but in DC prediction
  * of 16x16 and 8x8 blocks, which averages the edges that are there, and is 128 without any.
+ *
+ * zopredil_inverse_dct_add_into, zopredil_macroblock and the two calls that draw a still end with clipped, a slice of 1:
+ * how many of their sums of prediction and residue were below 0 or above 255 before they were clamped. Where the
+ * coefficients are skipped there is no sum.
  */
 #ifndef ZOPREDIL_H
 #define ZOPREDIL_H
@@ -101,9 +105,11 @@ uint32_t zopredil_inverse_dct(const int16_t *in, size_t in_len, int16_t *out, si
  * 0..255. The block's first pixel is plane[4 * sub_row * stride + 4 * sub_col], its rows are stride apart. in has 16
  * numbers. The block lies in the plane when stride >= 4 * sub_col + 4 and
  * (4 * sub_row + 3) * stride + 4 * sub_col + 4 <= plane_len, in numbers without bound. Every byte outside the block is
- * kept. Replies: 1 for in, then 2; the plane is untouched. */
+ * kept. clipped has 1 number, at most 16. Replies: 1 for in or clipped, nothing written; 2, the plane untouched and
+ * clipped 0. */
 uint32_t zopredil_inverse_dct_add_into(const int16_t *in, size_t in_len, uint8_t *plane, size_t plane_len,
-                                       size_t stride, size_t sub_row, size_t sub_col);
+                                       size_t stride, size_t sub_row, size_t sub_col, uint64_t *clipped,
+                                       size_t clipped_len);
 
 /* Adds residues to predictions (14.5): out[i] is prediction[i] + residue[i], clamped to 0..255. The three lengths are
  * equal, and may be 0. Replies: 1, nothing written. */
@@ -132,10 +138,11 @@ uint32_t zopredil_predict_b4x4(uint8_t mode, const uint8_t *above, size_t above_
  * modes of the 16 luma sub-blocks in raster order, or 0 bytes where they are not given; they are looked at in luma mode
  * B only. record has the 81 bytes drawn above. coeffs has 400 numbers, also where they are skipped: Y2 16, Y 256, U 64,
  * V 64, each block in raster order; luma mode B does not use the first 16. out has 384 bytes: Y 256, U 64, V 64.
- * Replies: 1 for any slice, nothing written; 8; 4; after 8 and 4 out is zeros. */
+ * clipped has 1 number, at most 384, and 0 where the coefficients are skipped. Replies: 1 for any slice, nothing
+ * written; 8; 4; after 8 and 4 out is zeros and clipped 0. */
 uint32_t zopredil_macroblock(const uint8_t *modes, size_t modes_len, const uint8_t *sub_modes, size_t sub_modes_len,
                              const uint8_t *record, size_t record_len, const int16_t *coeffs, size_t coeffs_len,
-                             uint8_t *out, size_t out_len);
+                             uint8_t *out, size_t out_len, uint64_t *clipped, size_t clipped_len);
 
 /* Gathers the neighbour record of the macroblock in column col and row row, both counted from 0, of a picture of
  * finished planes (12.2 and 12.3) that is cols macroblocks wide and rows high. Each side is 1 to 1,024. y has exactly
@@ -160,8 +167,8 @@ uint32_t zopredil_right_pixels(const uint8_t *y, size_t y_len, size_t cols, size
  * raster order, each drawn as zopredil_macroblock does from the finished pixels around it. For n = cols * rows
  * macroblocks, in raster order, modes has 3 n bytes (luma mode, chroma mode, skip), sub_modes 16 n, which are looked at
  * in luma mode B only, coeffs 400 n numbers, the first 16 of a macroblock unused in luma mode B. right has the four
- * luma pixels above and to the right of the last macroblock of each row after the first, 4 * (rows - 1) bytes. y has
- * 256 n bytes, u and v 64 n, rows unpadded:
+ * luma pixels above and to the right of the last macroblock of each row after the first, 4 * (rows - 1) bytes. clipped
+ * has 1 number, the total of the macroblocks. y has 256 n bytes, u and v 64 n, rows unpadded:
  *
  *                16 * cols                  8 * cols
  *            +----+----+-- --+           +----+----+-- --+
@@ -172,19 +179,20 @@ uint32_t zopredil_right_pixels(const uint8_t *y, size_t y_len, size_t cols, size
  * the first row the pixel above left is 129.
  *
  * The answer is the raster index of a macroblock times 256, plus the reply; the index is 0 but in reply 8. Replies: 7
- * for a side; 1 for any slice; nothing is drawn after these. 8 at the first macroblock with an unknown mode, sub-block
- * mode (in luma mode B) or skip byte, with its index: the macroblocks before it are finished, every other byte is
- * kept. */
+ * for a side; 1 for any slice; nothing is drawn after these, and clipped is 0, or untouched where its own length is not
+ * 1. 8 at the first macroblock with an unknown mode, sub-block mode (in luma mode B) or skip byte, with its index: the
+ * macroblocks before it are finished, clipped is their total, every other byte is kept. */
 uint64_t zopredil_still(size_t cols, size_t rows, const uint8_t *modes, size_t modes_len, const uint8_t *sub_modes,
                         size_t sub_modes_len, const int16_t *coeffs, size_t coeffs_len, const uint8_t *right,
                         size_t right_len, uint8_t *y, size_t y_len, uint8_t *u, size_t u_len, uint8_t *v,
-                        size_t v_len);
+                        size_t v_len, uint64_t *clipped, size_t clipped_len);
 
 /* The same for a still that comes without right: the four pixels are copies of the last pixel, of the 16 * cols, of the
  * luma row above the macroblock row. It answers as zopredil_still does when it is given those. */
 uint64_t zopredil_still_alone(size_t cols, size_t rows, const uint8_t *modes, size_t modes_len,
                               const uint8_t *sub_modes, size_t sub_modes_len, const int16_t *coeffs, size_t coeffs_len,
-                              uint8_t *y, size_t y_len, uint8_t *u, size_t u_len, uint8_t *v, size_t v_len);
+                              uint8_t *y, size_t y_len, uint8_t *u, size_t u_len, uint8_t *v, size_t v_len,
+                              uint64_t *clipped, size_t clipped_len);
 
 #ifdef __cplusplus
 }

@@ -6,7 +6,8 @@
 //! are; `bench/instructions` counts what that takes.
 //!
 //! Both sides have their input made beforehand, in the form that each takes: for the library bytes and 400 numbers, for
-//! the Rust its enums, its record of `Option`s and its arrays of blocks. Both write 384 bytes a macroblock.
+//! the Rust its enums, its record of `Option`s and its arrays of blocks. Both write 384 bytes a macroblock;
+//! the library also counts the clipped sums.
 
 use judge::data;
 use judge::expected::{self, Blocks};
@@ -73,8 +74,9 @@ fn bench_rust(all: &[Taken], out: &mut [ReconstructedMb]) -> Result<(), Reconstr
 #[no_mangle]
 #[inline(never)]
 fn bench_library(all: &[Given], out: &mut [[u8; 384]]) -> Result<(), u32> {
+    let mut clipped = [0];
     for (g, out) in all.iter().zip(out) {
-        // SAFETY: the pointers and the lengths are those of arrays; only out is written.
+        // SAFETY: the pointers and the lengths are those of arrays; only out and clipped are written.
         let reply = unsafe {
             zopredil_macroblock(
                 g.modes.as_ptr(),
@@ -87,6 +89,8 @@ fn bench_library(all: &[Given], out: &mut [[u8; 384]]) -> Result<(), u32> {
                 400,
                 out.as_mut_ptr(),
                 384,
+                clipped.as_mut_ptr(),
+                1,
             )
         };
         if reply != 0 {

@@ -83,7 +83,7 @@ impl Job {
     }
 
     /// Draws one of them.
-    fn draw(&mut self, which: usize) -> Result<(), StillRefused> {
+    fn draw(&mut self, which: usize) -> Result<u64, StillRefused> {
         let count = self.count();
         let still = Still {
             cols: self.cols,

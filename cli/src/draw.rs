@@ -1,5 +1,6 @@
 //! Drawing a still: read, call the library, write the picture.
 
+use crate::clipped::{self, Marks};
 use crate::picture::Picture;
 use crate::png::Png;
 use crate::progress::Progress;
@@ -17,12 +18,14 @@ pub struct Drawn {
     height: u32,
     sizes: Sizes,
     picture: PathBuf,
+    clipped: u64,
 }
 
 impl fmt::Display for Drawn {
     fn fmt(&self, f: &mut fmt::Formatter<'_>) -> fmt::Result {
-        let Drawn { width, height, sizes: Sizes { cols, rows, .. }, picture } = self;
-        write!(f, "drew {width}x{height} ({cols}x{rows} macroblocks), reply 0: {}", picture.display())
+        let Drawn { width, height, sizes: Sizes { cols, rows, .. }, picture, clipped } = self;
+        writeln!(f, "drew {width}x{height} ({cols}x{rows} macroblocks), reply 0: {}", picture.display())?;
+        write!(f, "clipped pixels: {clipped}")
     }
 }
 
@@ -40,10 +43,25 @@ pub fn draw(job: &Draw) -> Result<Drawn, String> {
         )));
     }
     progress.step("drawing");
-    let picture = Picture { width, height, ..planes(&still).map_err(of_still)? };
+    let (whole, clipped) = planes(&still).map_err(of_still)?;
+    let picture = Picture { width, height, ..whole };
+    let mut marks = None;
+    if job.mark_clipped {
+        progress.step("marking");
+        marks = Some(found(&still, &picture, clipped).map_err(of_still)?);
+    }
     progress.step("writing");
-    write(job, &picture, &mut progress).map_err(|why| format!("{}: {why}", job.picture.display()))?;
-    Ok(Drawn { width, height, sizes, picture: job.picture.clone() })
+    write(job, &picture, marks.as_ref(), &mut progress).map_err(|why| format!("{}: {why}", job.picture.display()))?;
+    Ok(Drawn { width, height, sizes, picture: job.picture.clone(), clipped })
+}
+
+/// The clipped pixels, which are as many as the library counted.
+fn found(still: &StillFile, picture: &Picture, clipped: u64) -> Result<Marks, String> {
+    let marks = Marks::find(still, picture)?;
+    match marks.count() {
+        count if count == clipped => Ok(marks),
+        count => Err(format!("{count} clipped pixels are found, and {clipped} were counted")),
+    }
 }
 
 fn read(path: &Path, progress: &mut Progress) -> Result<StillFile, String> {
@@ -53,8 +71,8 @@ fn read(path: &Path, progress: &mut Progress) -> Result<StillFile, String> {
     still_file::read(&mut file, length, progress).map_err(|why| why.to_string())
 }
 
-/// The still as the library draws it, uncropped.
-fn planes(still: &StillFile) -> Result<Picture, String> {
+/// The still as the library draws it, uncropped, and how many of its pixels are clipped.
+fn planes(still: &StillFile) -> Result<(Picture, u64), String> {
     let Sizes { width, height, cols, rows } = still.sizes;
     let (cols, rows, count) = (cols as usize, rows as usize, still.sizes.count());
     let plane = |bytes: usize| {
@@ -66,7 +84,7 @@ fn planes(still: &StillFile) -> Result<Picture, String> {
     let (mut y, mut u, mut v) = (plane(256 * count)?, plane(64 * count)?, plane(64 * count)?);
     let lent = Still { cols, rows, modes: &still.modes, sub_modes: &still.sub_modes, coeffs: &still.coeffs };
     match still_alone(&lent, PlanesMut { y: &mut y, u: &mut u, v: &mut v }) {
-        Ok(()) => Ok(Picture { y, u, v, cols, width, height }),
+        Ok(clipped) => Ok((Picture { y, u, v, cols, width, height }, clipped)),
         Err(refused) if refused.reply == Reply::UnknownByte => {
             let (index, reply) = (refused.macroblock, refused.reply);
             let (col, row) = (index % cols, index / cols);
@@ -76,7 +94,7 @@ fn planes(still: &StillFile) -> Result<Picture, String> {
     }
 }
 
-fn write(job: &Draw, picture: &Picture, progress: &mut Progress) -> io::Result<()> {
+fn write(job: &Draw, picture: &Picture, marks: Option<&Marks>, progress: &mut Progress) -> io::Result<()> {
     let mut to = BufWriter::new(File::create(&job.picture)?);
     let height = picture.height as usize;
     match job.format {
@@ -89,18 +107,36 @@ fn write(job: &Draw, picture: &Picture, progress: &mut Progress) -> io::Result<(
             to.flush()
         }
         Format::Png => {
-            let mut png = Png::new(to, picture.width, picture.height, job.color)?;
+            let mut png = Png::new(to, picture.width, picture.height, job.color || marks.is_some())?;
             let mut pixels = Vec::new();
             for row in 0..height {
-                if job.color {
-                    picture.color(row, &mut pixels);
-                    png.row(&pixels)?;
-                } else {
-                    png.row(picture.grey(row))?;
+                match marks {
+                    None if !job.color => png.row(picture.grey(row))?,
+                    _ => {
+                        rgb_row(job, picture, marks, row, &mut pixels);
+                        png.row(&pixels)?;
+                    }
                 }
                 progress.at(row + 1, height);
             }
             png.end()
+        }
+    }
+}
+
+/// A row as red, green and blue, its clipped pixels marked.
+fn rgb_row(job: &Draw, picture: &Picture, marks: Option<&Marks>, row: usize, out: &mut Vec<u8>) {
+    if job.color {
+        picture.color(row, out);
+    } else {
+        out.clear();
+        out.extend(picture.grey(row).iter().flat_map(|&y| [y; 3]));
+    }
+    if let Some(marks) = marks {
+        for (x, pixel) in out.chunks_exact_mut(3).enumerate() {
+            if marks.at(row, x, job.color) {
+                pixel.copy_from_slice(&clipped::COLOR);
+            }
         }
     }
 }

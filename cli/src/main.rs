@@ -1,5 +1,6 @@
-//! zopredil draw FILE.still -o PICTURE [--color] [--crop WxH]: draws a still to a picture. The pixels are those of the
-//! proved library; reading the still, cropping, colours and the picture's format are this program's.
+//! zopredil draw FILE.still -o PICTURE [--color] [--crop WxH] [--mark-clipped]: draws a still to a picture. The pixels
+//! are those of the proved library, and so is the count of clipped ones; reading the still, cropping, colours, finding
+//! the clipped pixels and the picture's format are this program's.
 //!
 //! Whatever goes wrong is one line on standard error. The status is 0 for a drawn picture, 1 where the still or the
 //! picture's file is to blame, and 2 where the words of the command are.
@@ -7,6 +8,7 @@
 #![forbid(unsafe_code)]
 #![cfg_attr(not(test), deny(clippy::unwrap_used, clippy::expect_used, clippy::panic))]
 
+mod clipped;
 mod deflate;
 mod draw;
 mod picture;

@@ -4,13 +4,16 @@ use std::ffi::{OsStr, OsString};
 use std::path::{Path, PathBuf};
 
 pub const HELP: &str = "\
-zopredil draw FILE.still -o PICTURE [--color] [--crop WxH]
+zopredil draw FILE.still -o PICTURE [--color] [--crop WxH] [--mark-clipped]
 
-    Draws a still to PICTURE, a .png or a .pgm file, and prints its size, its reply and where the picture is.
+    Draws a still to PICTURE, a .png or a .pgm file, and prints its size, its reply and where the picture is; then how
+    many pixels are clipped: their level, of Y, U or V, came out below 0 or above 255 and is held within. All pixels
+    of the macroblocks count, those outside the picture too.
 
-    -o PICTURE    the picture's file; its name says which format
-    --color       the whole picture as RGB (BT.601, limited range), in a .png; without it the Y plane as grey
-    --crop WxH    only the W pixels from the left and the H from the top";
+    -o PICTURE        the picture's file; its name says which format
+    --color           the whole picture as RGB (BT.601, limited range), in a .png; without it the Y plane as grey
+    --crop WxH        only the W pixels from the left and the H from the top
+    --mark-clipped    clipped pixels in magenta, in a .png; those of U and V, two by two pixels each, with --color only";
 
 /// What is asked for.
 #[derive(Debug, PartialEq, Eq)]
@@ -27,6 +30,7 @@ pub struct Draw {
     pub format: Format,
     pub color: bool,
     pub crop: Option<(u32, u32)>,
+    pub mark_clipped: bool,
 }
 
 #[derive(Debug, Clone, Copy, PartialEq, Eq)]
@@ -47,7 +51,7 @@ pub fn words(given: impl IntoIterator<Item = OsString>) -> Result<Words, String>
 }
 
 fn draw(mut given: impl Iterator<Item = OsString>) -> Result<Words, String> {
-    let (mut still, mut picture, mut color, mut crop) = (None, None, false, None);
+    let (mut still, mut picture, mut color, mut crop, mut mark_clipped) = (None, None, false, None, false);
     let mut only_files = false;
     while let Some(word) = given.next() {
         let option = if only_files { None } else { word.to_str().filter(|word| word.starts_with('-')) };
@@ -56,6 +60,7 @@ fn draw(mut given: impl Iterator<Item = OsString>) -> Result<Words, String> {
             Some("--") => only_files = true,
             Some("-o") => once(&mut picture, given.next().ok_or("-o wants a file")?, "two pictures")?,
             Some("--color") => color = true,
+            Some("--mark-clipped") => mark_clipped = true,
             Some("--crop") => once(&mut crop, size(&given.next().ok_or("--crop wants a size")?)?, "two crops")?,
             Some(option) => return Err(format!("unknown option {option}")),
             None => once(&mut still, word, "two stills")?,
@@ -64,10 +69,10 @@ fn draw(mut given: impl Iterator<Item = OsString>) -> Result<Words, String> {
     let still = PathBuf::from(still.ok_or("draw wants a still")?);
     let picture = PathBuf::from(picture.ok_or("draw wants -o and a picture's file")?);
     let format = format(&picture)?;
-    if color && format == Format::Pgm {
+    if (color || mark_clipped) && format == Format::Pgm {
         return Err("a .pgm picture has no colours".to_string());
     }
-    Ok(Words::Draw(Draw { still, picture, format, color, crop }))
+    Ok(Words::Draw(Draw { still, picture, format, color, crop, mark_clipped }))
 }
 
 /// Fills a place that is still empty.
@@ -121,6 +126,9 @@ mod tests {
         assert_eq!((plain.format, plain.color, plain.crop), (Format::Png, false, None));
         let full = job("draw --crop 5x7 -o c.d/b.PNG --color a.still");
         assert_eq!((full.format, full.color, full.crop), (Format::Png, true, Some((5, 7))));
+        assert!(!plain.mark_clipped && !full.mark_clipped);
+        let marked = job("draw a.still --mark-clipped -o b.png");
+        assert_eq!((marked.mark_clipped, marked.color), (true, false));
         assert_eq!(job("draw a.still -o b.pgm").format, Format::Pgm);
         assert_eq!(job("draw -o b.png -- -o").still, Path::new("-o"));
     }
@@ -146,6 +154,8 @@ mod tests {
             "draw a.still -o b.jpeg",
             "draw a.still -o png",
             "draw a.still -o b.pgm --color",
+            "draw a.still -o b.pgm --mark-clipped",
+            "draw a.still -o b.png --mark",
             "draw a.still -o b.png --colour",
             "draw a.still -o b.png --crop",
             "draw a.still -o b.png --crop 5x5 --crop 5x5",

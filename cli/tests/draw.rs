@@ -22,7 +22,7 @@ fn run(folder: &Path, words: &[&str]) -> Output {
     Command::new(env!("CARGO_BIN_EXE_zopredil")).args(words).current_dir(folder).output().unwrap()
 }
 
-/// The program draws, and says so in one line.
+/// The program draws, and says so.
 fn drawn(folder: &Path, words: &[&str]) -> String {
     let ran = run(folder, words);
     assert_eq!(String::from_utf8_lossy(&ran.stderr), "");
@@ -94,9 +94,9 @@ fn a_still_is_drawn_cropped_to_its_size() {
     let folder = folder("cropped");
     Tones::new(33, 31).save(&folder);
     let said = drawn(&folder, &["draw", "a.still", "-o", "a.png"]);
-    assert_eq!(said, "drew 33x31 (3x2 macroblocks), reply 0: a.png\n");
+    assert_eq!(said, "drew 33x31 (3x2 macroblocks), reply 0: a.png\nclipped pixels: 0\n");
     let said = drawn(&folder, &["draw", "a.still", "-o", "a.pgm"]);
-    assert_eq!(said, "drew 33x31 (3x2 macroblocks), reply 0: a.pgm\n");
+    assert_eq!(said, "drew 33x31 (3x2 macroblocks), reply 0: a.pgm\nclipped pixels: 0\n");
     let (width, height, rows) = read_pgm(&folder.join("a.pgm"));
     assert_eq!((width, height), (33, 31));
     let mut first = [128; 33];
@@ -115,7 +115,7 @@ fn a_crop_is_the_top_left_of_the_picture() {
     for (width, height) in [(1, 1), (40, 1), (1, 40), (17, 33), (40, 40)] {
         let crop = format!("{width}x{height}");
         let said = drawn(&folder, &["draw", "a.still", "--crop", &crop, "-o", "part.pgm"]);
-        assert_eq!(said, format!("drew {crop} (3x3 macroblocks), reply 0: part.pgm\n"));
+        assert_eq!(said, format!("drew {crop} (3x3 macroblocks), reply 0: part.pgm\nclipped pixels: 0\n"));
         let part: Vec<Vec<u8>> = whole[..height].iter().map(|row| row[..width].to_vec()).collect();
         assert_eq!(read_pgm(&folder.join("part.pgm")), (width as u32, height as u32, part));
     }
@@ -142,6 +142,76 @@ fn colours_are_those_of_the_three_planes() {
     assert_eq!(png::tests::read_back(&fs::read(folder.join("a.png")).unwrap()), (20, 16, 3, vec![red; 16]));
     drawn(&folder, &["draw", "a.still", "-o", "a.pgm"]);
     assert_eq!(read_pgm(&folder.join("a.pgm")), (20, 16, vec![vec![81; 20]; 16]));
+}
+
+/// The picture of a .png file in RGB: its rows of pixels.
+fn read_rgb(file: &Path) -> Vec<Vec<[u8; 3]>> {
+    let (_, _, pixel, rows) = png::tests::read_back(&fs::read(file).unwrap());
+    assert_eq!(pixel, 3);
+    rows.iter().map(|row| row.chunks(3).map(|pixel| pixel.try_into().unwrap()).collect()).collect()
+}
+
+const MAGENTA: [u8; 3] = [255, 0, 255];
+
+#[test]
+fn clipped_pixels_are_counted_and_marked() {
+    let folder = folder("clipped");
+    let mut still = Tones::new(40, 16);
+    still.coeffs.fill(0);
+    still.coeffs[0] = -64 * 129; // all 256 of Y in the first macroblock one below 0, and 0 from there on
+    still.coeffs[400 + 272 + 16] = 8 * 128; // 16 of U in the second: columns 24 to 31, rows 0 to 7
+    still.coeffs[800] = 64 * 255; // Y in the third at 255, which is not past it
+    still.save(&folder);
+    let said = drawn(&folder, &["draw", "a.still", "-o", "grey.png", "--mark-clipped"]);
+    assert_eq!(said, "drew 40x16 (3x1 macroblocks), reply 0: grey.png\nclipped pixels: 272\n");
+    let grey = |x: usize| [if x < 32 { 0 } else { 255 }; 3];
+    for row in read_rgb(&folder.join("grey.png")) {
+        assert_eq!(row, (0..40).map(|x| if x < 16 { MAGENTA } else { grey(x) }).collect::<Vec<_>>());
+    }
+    drawn(&folder, &["draw", "a.still", "-o", "plain.png", "--color"]);
+    let said = drawn(&folder, &["draw", "a.still", "-o", "color.png", "--color", "--mark-clipped", "--crop", "30x16"]);
+    assert_eq!(said, "drew 30x16 (3x1 macroblocks), reply 0: color.png\nclipped pixels: 272\n");
+    let plain = read_rgb(&folder.join("plain.png"));
+    for (row, pixels) in read_rgb(&folder.join("color.png")).into_iter().enumerate() {
+        let marked = |x: usize| x < 16 || x >= 24 && row < 8;
+        assert_eq!(pixels, (0..30).map(|x| if marked(x) { MAGENTA } else { plain[row][x] }).collect::<Vec<_>>());
+    }
+    // without the option the picture is as ever
+    drawn(&folder, &["draw", "a.still", "-o", "a.png"]);
+    assert_eq!(png::tests::read_back(&fs::read(folder.join("a.png")).unwrap()).2, 1);
+}
+
+#[test]
+fn a_skipped_macroblock_has_no_clipped_pixels() {
+    let folder = folder("skipped");
+    let mut still = Tones::new(32, 16);
+    still.coeffs.fill(i16::MAX);
+    still.modes = vec![0, 0, 1, 4, 0, 1];
+    still.save(&folder);
+    let said = drawn(&folder, &["draw", "a.still", "-o", "a.png", "--mark-clipped"]);
+    assert!(said.ends_with("\nclipped pixels: 0\n"), "{said}");
+    assert!(read_rgb(&folder.join("a.png")).iter().flatten().all(|&[r, g, b]| r == g && g == b));
+}
+
+#[test]
+fn the_clipped_onset_of_the_studio() {
+    let folder = folder("studio");
+    let still = Path::new(env!("CARGO_MANIFEST_DIR")).join("../examples/studio.still");
+    let said = drawn(&folder, &["draw", still.to_str().unwrap(), "-o", "a.png", "--mark-clipped"]);
+    let count: usize = said.trim_end().rsplit_once(": ").unwrap().1.parse().unwrap();
+    let (_, _, _, plain) = png::tests::read_back(&fs::read(still.with_extension("png")).unwrap());
+    let mut marked = 0;
+    for (pixels, levels) in read_rgb(&folder.join("a.png")).iter().zip(&plain) {
+        for (x, (&pixel, &level)) in pixels.iter().zip(levels).enumerate() {
+            if pixel == MAGENTA {
+                marked += 1;
+                assert!(level == 255 && x < 40 || level == 0, "a clipped {level} in column {x}");
+            } else {
+                assert_eq!(pixel, [level; 3]);
+            }
+        }
+    }
+    assert!(marked > 100 && marked <= count, "{marked} of {count}");
 }
 
 #[test]
@@ -239,6 +309,7 @@ fn wrong_words() {
     refused(&folder, &["draw", "a.still"], 2);
     refused(&folder, &["draw", "a.still", "-o", "a.gif"], 2);
     refused(&folder, &["draw", "a.still", "-o", "a.pgm", "--color"], 2);
+    refused(&folder, &["draw", "a.still", "-o", "a.pgm", "--mark-clipped"], 2);
     refused(&folder, &["draw", "a.still", "-o", "a.png", "--crop", "0x5"], 2);
     assert!(drawn(&folder, &["--help"]).contains("draw FILE.still -o PICTURE"));
 }
@@ -251,6 +322,9 @@ fn a_large_still_has_a_progress_line() {
     assert_eq!(ran.status.code(), Some(0));
     let line = "zopredil: 4096 macroblocks: reading 25% 50% 75% 100%, drawing, writing 25% 50% 75% 100%\n";
     assert_eq!(String::from_utf8_lossy(&ran.stderr), line);
+    let ran = run(&folder, &["draw", "a.still", "-o", "a.png", "--mark-clipped"]);
+    let line = line.replace("drawing, ", "drawing, marking, ");
+    assert_eq!((ran.status.code(), String::from_utf8_lossy(&ran.stderr).into_owned()), (Some(0), line));
 }
 
 #[cfg(target_os = "linux")]

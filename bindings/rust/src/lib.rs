@@ -19,6 +19,9 @@
 //! [`dequantise`], [`y1_factors`] and [`dequant_block`] (14.1), [`inverse_wht`] (14.3), [`inverse_dct`] (14.4),
 //! [`add_residue`] (14.5), [`predict_y16x16`], [`predict_uv8x8`] and [`predict_b4x4`] (12.2 and 12.3).
 //!
+//! The calls that draw, and [`inverse_dct_add_into`], also say how many sums of prediction and residue were below 0 or
+//! above 255 before they were clamped.
+//!
 //! A call that can be refused answers with a [`Reply`]. Where the types rule every refusal out, the function returns its
 //! result as it is. [`raw`] has the C functions themselves.
 

@@ -13,6 +13,9 @@ pub struct Macroblock {
     pub u: [u8; 64],
     /// 8x8 pixels of V.
     pub v: [u8; 64],
+    /// How many of the 384 sums of prediction and residue were below 0 or above 255 before they were clamped; 0 where
+    /// the coefficients are skipped.
+    pub clipped: u64,
 }
 
 /// Draws a macroblock: predicts it from its neighbours and, unless it is skipped, adds the residue of its dequantised
@@ -25,7 +28,7 @@ pub struct Macroblock {
 /// let modes = MbModes { y: IntraYMode::B, uv: IntraUvMode::Dc, skip: true };
 /// let edges = Neighbors::default();
 /// let drawn = macroblock(modes, Some(&[IntraBmode::He; 16]), &edges, &[0; 400])?;
-/// assert_eq!(drawn.y, [129; 256]);
+/// assert_eq!((drawn.y, drawn.clipped), ([129; 256], 0));
 /// assert_eq!(macroblock(modes, None, &edges, &[0; 400]), Err(Reply::MissingSubblockModes));
 /// # Ok::<(), Reply>(())
 /// ```
@@ -39,8 +42,8 @@ pub fn macroblock(
     let sub_modes = sub_modes.map(|modes| modes.map(|mode| mode as u8));
     let sub_modes = sub_modes.as_ref().map_or(&[][..], |modes| &modes[..]);
     let record = neighbors.to_bytes();
-    let mut out = [0; 384];
-    // SAFETY: the pointers and the lengths are those of arrays; only out is written.
+    let (mut out, mut clipped) = ([0; 384], [0]);
+    // SAFETY: the pointers and the lengths are those of arrays; only out and clipped are written.
     answer(unsafe {
         raw::zopredil_macroblock(
             modes.as_ptr(),
@@ -53,9 +56,11 @@ pub fn macroblock(
             coeffs.len(),
             out.as_mut_ptr(),
             out.len(),
+            clipped.as_mut_ptr(),
+            clipped.len(),
         )
     })?;
-    let mut drawn = Macroblock { y: [0; 256], u: [0; 64], v: [0; 64] };
+    let mut drawn = Macroblock { y: [0; 256], u: [0; 64], v: [0; 64], clipped: clipped[0] };
     drawn.y.copy_from_slice(&out[..256]);
     drawn.u.copy_from_slice(&out[256..320]);
     drawn.v.copy_from_slice(&out[320..]);

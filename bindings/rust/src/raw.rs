@@ -27,11 +27,12 @@ extern "C" {
     /// The inverse DCT of 16 numbers.
     pub fn zopredil_inverse_dct(input: *const i16, input_len: usize, out: *mut i16, out_len: usize) -> u32;
 
-    /// The inverse DCT of 16 numbers, added to a 4x4 block of a plane.
+    /// The inverse DCT of 16 numbers, added to a 4x4 block of a plane; `clipped` 1.
     pub fn zopredil_inverse_dct_add_into(
         input: *const i16, input_len: usize,
         plane: *mut u8, plane_len: usize,
         stride: usize, sub_row: usize, sub_col: usize,
+        clipped: *mut u64, clipped_len: usize,
     ) -> u32;
 
     /// Adds residues to predictions; three equal lengths.
@@ -68,13 +69,14 @@ extern "C" {
         out: *mut u8, out_len: usize,
     ) -> u32;
 
-    /// Draws a macroblock; `modes` 3, `sub_modes` 16 or 0, `record` 81, `coeffs` 400, `out` 384.
+    /// Draws a macroblock; `modes` 3, `sub_modes` 16 or 0, `record` 81, `coeffs` 400, `out` 384, `clipped` 1.
     pub fn zopredil_macroblock(
         modes: *const u8, modes_len: usize,
         sub_modes: *const u8, sub_modes_len: usize,
         record: *const u8, record_len: usize,
         coeffs: *const i16, coeffs_len: usize,
         out: *mut u8, out_len: usize,
+        clipped: *mut u64, clipped_len: usize,
     ) -> u32;
 
     /// Gathers the neighbour record of a macroblock; `right` 4, `record` 81.
@@ -95,7 +97,7 @@ extern "C" {
     ) -> u32;
 
     /// Draws a still; for n macroblocks `modes` 3 n, `sub_modes` 16 n, `coeffs` 400 n, `right` 4 for each row but the
-    /// first, `y` 256 n, `u` and `v` 64 n. The answer is the raster index times 256 plus the reply.
+    /// first, `y` 256 n, `u` and `v` 64 n, `clipped` 1. The answer is the raster index times 256 plus the reply.
     pub fn zopredil_still(
         cols: usize, rows: usize,
         modes: *const u8, modes_len: usize,
@@ -105,6 +107,7 @@ extern "C" {
         y: *mut u8, y_len: usize,
         u: *mut u8, u_len: usize,
         v: *mut u8, v_len: usize,
+        clipped: *mut u64, clipped_len: usize,
     ) -> u64;
 
     /// The same without `right`.
@@ -116,5 +119,6 @@ extern "C" {
         y: *mut u8, y_len: usize,
         u: *mut u8, u_len: usize,
         v: *mut u8, v_len: usize,
+        clipped: *mut u64, clipped_len: usize,
     ) -> u64;
 }

@@ -42,6 +42,8 @@ pub struct StillRefused {
     /// The raster index of the macroblock with the unknown byte, which is also how many are finished. 0 in the other
     /// replies.
     pub macroblock: usize,
+    /// The clipped sums of the finished macroblocks. 0 in the other replies.
+    pub clipped: u64,
 }
 
 impl fmt::Display for StillRefused {
@@ -55,16 +57,21 @@ impl fmt::Display for StillRefused {
 
 impl error::Error for StillRefused {}
 
-/// The C interface's answer: the raster index times 256, plus the reply.
-fn still_answer(answered: u64) -> Result<(), StillRefused> {
+/// The C interface's answer: the raster index times 256, plus the reply; and the clipped sums.
+fn still_answer(answered: u64, [clipped]: [u64; 1]) -> Result<u64, StillRefused> {
     let (macroblock, number) = ((answered >> 8) as usize, (answered & 255) as u32);
-    answer(number).map_err(|reply| StillRefused { reply, macroblock })
+    match answer(number) {
+        Ok(()) => Ok(clipped),
+        Err(reply) => Err(StillRefused { reply, macroblock, clipped }),
+    }
 }
 
 /// Draws a still, given the pixels right of the picture: four for each macroblock row after the first, which its last
-/// macroblock takes as the luma pixels above and to the right. Refused with [`Reply::OutsidePicture`] for its size, then
-/// with [`Reply::WrongLength`] for any slice, both before anything is drawn; then with [`Reply::UnknownByte`] at the
-/// first macroblock with an unknown byte: the macroblocks before it are finished, all other bytes as they were.
+/// macroblock takes as the luma pixels above and to the right. The answer is how many sums of prediction and residue, of
+/// the three planes together, were below 0 or above 255 before they were clamped. Refused with
+/// [`Reply::OutsidePicture`] for its size, then with [`Reply::WrongLength`] for any slice, both before anything is drawn;
+/// then with [`Reply::UnknownByte`] at the first macroblock with an unknown byte: the macroblocks before it are finished,
+/// all other bytes as they were.
 ///
 /// ```
 /// use zopredil::{still, PlanesMut, Reply, Still, StillRefused};
@@ -78,17 +85,18 @@ fn still_answer(answered: u64) -> Result<(), StillRefused> {
 ///     coeffs: &[0; 800],
 /// };
 /// let (mut y, mut u, mut v) = ([0; 512], [0; 128], [0; 128]);
-/// still(&given, &[90; 4], PlanesMut { y: &mut y, u: &mut u, v: &mut v })?;
-/// assert_eq!((y[0], y[256], y[256 + 63]), (128, 128, 90));
+/// let clipped = still(&given, &[90; 4], PlanesMut { y: &mut y, u: &mut u, v: &mut v })?;
+/// assert_eq!((y[0], y[256], y[256 + 63], clipped), (128, 128, 90, 0));
 ///
 /// let given = Still { modes: &[0, 0, 1, 5, 0, 1], ..given };
 /// let refused = still(&given, &[90; 4], PlanesMut { y: &mut y, u: &mut u, v: &mut v });
-/// assert_eq!(refused, Err(StillRefused { reply: Reply::UnknownByte, macroblock: 1 }));
+/// assert_eq!(refused, Err(StillRefused { reply: Reply::UnknownByte, macroblock: 1, clipped: 0 }));
 /// # Ok::<(), StillRefused>(())
 /// ```
-pub fn still(still: &Still<'_>, right: &[u8], planes: PlanesMut<'_>) -> Result<(), StillRefused> {
+pub fn still(still: &Still<'_>, right: &[u8], planes: PlanesMut<'_>) -> Result<u64, StillRefused> {
+    let mut clipped = [0];
     // SAFETY: the pointers and the lengths are those of slices, and those that are written are lent alone.
-    still_answer(unsafe {
+    let answered = unsafe {
         raw::zopredil_still(
             still.cols,
             still.rows,
@@ -106,8 +114,11 @@ pub fn still(still: &Still<'_>, right: &[u8], planes: PlanesMut<'_>) -> Result<(
             planes.u.len(),
             planes.v.as_mut_ptr(),
             planes.v.len(),
+            clipped.as_mut_ptr(),
+            clipped.len(),
         )
-    })
+    };
+    still_answer(answered, clipped)
 }
 
 /// Draws a still that comes without the pixels right of the picture: for each macroblock row after the first they are
@@ -118,18 +129,26 @@ pub fn still(still: &Still<'_>, right: &[u8], planes: PlanesMut<'_>) -> Result<(
 ///
 /// let given = Still { cols: 2, rows: 1, modes: &[0, 0, 1, 2, 1, 1], sub_modes: &[0; 32], coeffs: &[0; 800] };
 /// let (mut y, mut u, mut v) = ([0; 512], [0; 128], [0; 128]);
-/// still_alone(&given, PlanesMut { y: &mut y, u: &mut u, v: &mut v })?;
-/// assert_eq!((y, u[7], u[8]), ([128; 512], 128, 127));
+/// let clipped = still_alone(&given, PlanesMut { y: &mut y, u: &mut u, v: &mut v })?;
+/// assert_eq!((y, u[7], u[8], clipped), ([128; 512], 128, 127, 0));
+///
+/// // 128 and 200 in every luma pixel of the first macroblock
+/// let mut coeffs = [0; 800];
+/// coeffs[0] = 64 * 200;
+/// let loud = Still { modes: &[0, 0, 0, 2, 1, 1], coeffs: &coeffs, ..given };
+/// let clipped = still_alone(&loud, PlanesMut { y: &mut y, u: &mut u, v: &mut v })?;
+/// assert_eq!((y, clipped), ([255; 512], 256));
 ///
 /// let refused = still_alone(&given, PlanesMut { y: &mut y[1..], u: &mut u, v: &mut v });
-/// assert_eq!(refused, Err(StillRefused { reply: Reply::WrongLength, macroblock: 0 }));
+/// assert_eq!(refused, Err(StillRefused { reply: Reply::WrongLength, macroblock: 0, clipped: 0 }));
 /// let refused = still_alone(&Still { cols: 1025, ..given }, PlanesMut { y: &mut y, u: &mut u, v: &mut v });
-/// assert_eq!(refused, Err(StillRefused { reply: Reply::OutsidePicture, macroblock: 0 }));
+/// assert_eq!(refused, Err(StillRefused { reply: Reply::OutsidePicture, macroblock: 0, clipped: 0 }));
 /// # Ok::<(), StillRefused>(())
 /// ```
-pub fn still_alone(still: &Still<'_>, planes: PlanesMut<'_>) -> Result<(), StillRefused> {
+pub fn still_alone(still: &Still<'_>, planes: PlanesMut<'_>) -> Result<u64, StillRefused> {
+    let mut clipped = [0];
     // SAFETY: the pointers and the lengths are those of slices, and those that are written are lent alone.
-    still_answer(unsafe {
+    let answered = unsafe {
         raw::zopredil_still_alone(
             still.cols,
             still.rows,
@@ -145,6 +164,9 @@ pub fn still_alone(still: &Still<'_>, planes: PlanesMut<'_>) -> Result<(), Still
             planes.u.len(),
             planes.v.as_mut_ptr(),
             planes.v.len(),
+            clipped.as_mut_ptr(),
+            clipped.len(),
         )
-    })
+    };
+    still_answer(answered, clipped)
 }

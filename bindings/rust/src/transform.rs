@@ -148,8 +148,9 @@ pub fn inverse_dct(input: &[i16; 16]) -> [i16; 16] {
 }
 
 /// The inverse DCT of a 4x4 block, added to the prediction that stands in a plane (14.4 and 14.5). The block's first
-/// pixel is in row `4 * sub_row` and column `4 * sub_col` of rows that are `stride` apart. Refused with
-/// [`Reply::OutsidePlane`] where the block does not lie in the plane, which is then untouched.
+/// pixel is in row `4 * sub_row` and column `4 * sub_col` of rows that are `stride` apart. The answer is how many of the
+/// sixteen sums were below 0 or above 255 before they were clamped. Refused with [`Reply::OutsidePlane`] where the block
+/// does not lie in the plane, which is then untouched.
 ///
 /// ```
 /// use zopredil::{inverse_dct_add_into, Reply};
@@ -157,10 +158,12 @@ pub fn inverse_dct(input: &[i16; 16]) -> [i16; 16] {
 /// let mut plane = [100; 64];
 /// let mut block = [0; 16];
 /// block[0] = 16;
-/// inverse_dct_add_into(&block, &mut plane, 8, 1, 1)?;
+/// assert_eq!(inverse_dct_add_into(&block, &mut plane, 8, 1, 1), Ok(0));
 /// assert_eq!((plane[0], plane[36]), (100, 102));
+/// block[0] = 8 * 200;
+/// assert_eq!(inverse_dct_add_into(&block, &mut plane, 8, 1, 1), Ok(16));
+/// assert_eq!((plane[0], plane[36]), (100, 255));
 /// assert_eq!(inverse_dct_add_into(&block, &mut plane, 8, 2, 0), Err(Reply::OutsidePlane));
-/// # Ok::<(), Reply>(())
 /// ```
 pub fn inverse_dct_add_into(
     input: &[i16; 16],
@@ -168,8 +171,9 @@ pub fn inverse_dct_add_into(
     stride: usize,
     sub_row: usize,
     sub_col: usize,
-) -> Result<(), Reply> {
-    // SAFETY: the pointers and the lengths are those of the array and of the slice, which is lent alone.
+) -> Result<u64, Reply> {
+    let mut clipped = [0];
+    // SAFETY: the pointers and the lengths are those of arrays and of the slice, which is lent alone.
     answer(unsafe {
         raw::zopredil_inverse_dct_add_into(
             input.as_ptr(),
@@ -179,8 +183,11 @@ pub fn inverse_dct_add_into(
             stride,
             sub_row,
             sub_col,
+            clipped.as_mut_ptr(),
+            clipped.len(),
         )
-    })
+    })?;
+    Ok(clipped[0])
 }
 
 /// Adds residues to predictions (14.5), each sum clamped to 0..=255. Refused with [`Reply::WrongLength`] unless the

@@ -67,11 +67,49 @@ fn dct_of_one_coefficient_is_its_wave() {
 #[test]
 fn add_into_changes_its_block_alone() {
     let mut plane = [10; 256];
-    inverse_dct_add_into(&only(0, 8 * 250), &mut plane, 16, 3, 3).unwrap();
+    assert_eq!(inverse_dct_add_into(&only(0, 8 * 250), &mut plane, 16, 3, 3), Ok(16));
     for (i, &pixel) in plane.iter().enumerate() {
         let inside = i / 16 >= 12 && i % 16 >= 12;
         assert_eq!(pixel, if inside { 255 } else { 10 });
     }
+}
+
+#[test]
+fn clipped_sums_are_those_past_the_ends() {
+    let added = |pixel: u8, levels: i16| {
+        let mut plane = [pixel; 16];
+        let clipped = inverse_dct_add_into(&only(0, 8 * levels), &mut plane, 4, 0, 0).unwrap();
+        (plane[0], clipped)
+    };
+    for (pixel, levels, drawn) in
+        [(250, 5, (255, 0)), (250, 6, (255, 16)), (5, -5, (0, 0)), (5, -6, (0, 16)), (0, 0, (0, 0)), (255, 0, (255, 0))]
+    {
+        assert_eq!(added(pixel, levels), drawn);
+    }
+    // a wave of 16, 7, -7 and -16: only some columns pass
+    let mut plane = [245; 16];
+    assert_eq!(inverse_dct_add_into(&only(1, 100), &mut plane, 4, 0, 0), Ok(4));
+    assert_eq!(plane[..4], [255, 252, 238, 229]);
+}
+
+#[test]
+fn clipped_sums_of_a_macroblock() {
+    let non_b = MbModes { y: IntraYMode::Dc, uv: IntraUvMode::Dc, skip: false };
+    let mut coeffs = [0; 400];
+    coeffs[0] = 64 * 200; // every luma pixel 128 + 200
+    coeffs[272 + 16] = -8 * 129; // the sixteen of U block 1 below 0
+    coeffs[336] = 8 * 127; // those of V block 0 at 255
+    let drawn = macroblock(non_b, None, &Neighbors::default(), &coeffs).unwrap();
+    assert_eq!((drawn.y, drawn.clipped), ([255; 256], 256 + 16));
+    assert_eq!((drawn.u[4], drawn.v[0]), (0, 255));
+    let skipped = macroblock(MbModes { skip: true, ..non_b }, None, &Neighbors::default(), &coeffs).unwrap();
+    assert_eq!((skipped.y, skipped.clipped), ([128; 256], 0));
+    // mode B: the first sub-block is raised past white; the last line of those to its right is white without a residue
+    let in_b = MbModes { skip: false, ..SKIPPED_B };
+    let mut coeffs = [0; 400];
+    coeffs[16] = 8 * 200;
+    let drawn = macroblock(in_b, Some(&[IntraBmode::He; 16]), &Neighbors::default(), &coeffs).unwrap();
+    assert_eq!((drawn.y[0], drawn.y[3 * 16 + 15], drawn.y[64], drawn.clipped), (255, 255, 129, 16));
 }
 
 #[test]

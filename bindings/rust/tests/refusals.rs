@@ -66,7 +66,7 @@ fn blocks_outside_their_plane() {
     assert_eq!(inverse_dct_add_into(&block, &mut plane, usize::MAX, 0, 0), Err(Reply::OutsidePlane));
     assert_eq!(inverse_dct_add_into(&block, &mut [], 16, 0, 0), Err(Reply::OutsidePlane));
     assert_eq!(plane, [MARK; 256]);
-    assert_eq!(inverse_dct_add_into(&block, &mut plane, 16, 3, 3), Ok(()));
+    assert!(inverse_dct_add_into(&block, &mut plane, 16, 3, 3).is_ok());
 }
 
 #[test]
@@ -112,10 +112,25 @@ fn unknown_modes_of_predictions() {
     }
 }
 
-/// Draws a macroblock through the C interface: the reply, and what stands in the 384 bytes afterwards.
-fn draw(modes: &[u8], sub_modes: &[u8], record: &[u8], coeffs: &[i16]) -> (u32, [u8; 384]) {
-    let mut out = [MARK; 384];
-    let reply = unsafe {
+/// What a count holds before a call.
+const COUNT: u64 = 0xA5A5_A5A5_A5A5;
+
+/// Draws a macroblock through the C interface: the reply, and what stands in the 384 bytes and in the count afterwards.
+fn draw(modes: &[u8], sub_modes: &[u8], record: &[u8], coeffs: &[i16]) -> (u32, [u8; 384], u64) {
+    let (mut out, mut clipped) = ([MARK; 384], [COUNT]);
+    let reply = draw_into(modes, sub_modes, record, coeffs, &mut out, &mut clipped);
+    (reply, out, clipped[0])
+}
+
+fn draw_into(
+    modes: &[u8],
+    sub_modes: &[u8],
+    record: &[u8],
+    coeffs: &[i16],
+    out: &mut [u8],
+    clipped: &mut [u64],
+) -> u32 {
+    unsafe {
         zopredil_macroblock(
             modes.as_ptr(),
             modes.len(),
@@ -127,21 +142,22 @@ fn draw(modes: &[u8], sub_modes: &[u8], record: &[u8], coeffs: &[i16]) -> (u32, 
             coeffs.len(),
             out.as_mut_ptr(),
             out.len(),
+            clipped.as_mut_ptr(),
+            clipped.len(),
         )
-    };
-    (reply, out)
+    }
 }
 
 #[test]
 fn mode_b_without_sub_block_modes() {
     let modes = MbModes { y: IntraYMode::B, uv: IntraUvMode::Dc, skip: false };
     assert_eq!(macroblock(modes, None, &Neighbors::default(), &[1; 400]), Err(Reply::MissingSubblockModes));
-    assert_eq!(draw(&[4, 0, 0], &[], &[0; 81], &[1; 400]), (4, [0; 384]));
+    assert_eq!(draw(&[4, 0, 0], &[], &[0; 81], &[1; 400]), (4, [0; 384], 0));
 }
 
 #[test]
 fn unknown_bytes_of_a_macroblock() {
-    let refused = (8, [0; 384]);
+    let refused = (8, [0; 384], 0);
     for modes in [[5, 0, 0], [0, 4, 0], [0, 0, 2], [255, 255, 255]] {
         assert_eq!(draw(&modes, &[0; 16], &[0; 81], &[0; 400]), refused);
     }
@@ -162,7 +178,7 @@ fn unknown_bytes_of_a_macroblock() {
 #[test]
 fn wrong_lengths_of_a_macroblock() {
     let (modes, sub_modes, record, coeffs) = ([0; 4], [0; 17], [0; 82], [0; 401]);
-    let refused = (1, [MARK; 384]);
+    let refused = (1, [MARK; 384], COUNT);
     for n in [0, 2, 4] {
         assert_eq!(draw(&modes[..n], &[], &record[..81], &coeffs[..400]), refused);
     }
@@ -176,7 +192,15 @@ fn wrong_lengths_of_a_macroblock() {
         assert_eq!(draw(&modes[..3], &[], &record[..81], &coeffs[..n]), refused);
     }
     assert_eq!(draw(&[9, 9, 9], &[], &[9; 80], &coeffs[..400]), refused); // 1 comes before 8
-    assert_eq!(draw(&modes[..3], &[], &record[..81], &coeffs[..400]).0, 0);
+    assert_eq!(draw(&modes[..3], &[], &record[..81], &coeffs[..400]), (0, [128; 384], 0));
+    for (lent, counts) in [(384, 0), (384, 2), (383, 1), (385, 1), (0, 1)] {
+        for first in [0, 4, 9] {
+            let (mut out, mut clipped) = ([MARK; 385], [COUNT; 2]);
+            let (out_part, count_part) = (&mut out[..lent], &mut clipped[..counts]);
+            let reply = draw_into(&[first, 0, 0], &[], &record[..81], &coeffs[..400], out_part, count_part);
+            assert_eq!((reply, out, clipped), (1, [MARK; 385], [COUNT; 2])); // 1 comes before 8 and 4
+        }
+    }
 }
 
 #[test]
@@ -191,15 +215,33 @@ fn wrong_lengths_of_blocks() {
             assert_eq!(zopredil_inverse_wht_dc_only(5, out.as_mut_ptr(), n), 1);
             assert_eq!(zopredil_inverse_dct(input.as_ptr(), n, out.as_mut_ptr(), 16), 1);
             assert_eq!(zopredil_inverse_dct(input.as_ptr(), 16, out.as_mut_ptr(), n), 1);
-            let mut plane = [MARK; 64];
-            assert_eq!(zopredil_inverse_dct_add_into(input.as_ptr(), n, plane.as_mut_ptr(), 64, 8, 0, 0), 1);
-            assert_eq!(plane, [MARK; 64]);
         }
     }
     for n in [0, 1, 3] {
         assert_eq!(unsafe { zopredil_y1_factors(0, 0, out.as_mut_ptr(), n) }, 1);
     }
     assert_eq!(out, [-7; 17]);
+}
+
+#[test]
+fn counts_of_blocks_that_are_refused() {
+    let input = [1000; 17];
+    let added = |length, sub_row, counts| {
+        let (mut plane, mut clipped) = ([MARK; 64], [COUNT; 2]);
+        let (block, at, count) = (input.as_ptr(), plane.as_mut_ptr(), clipped.as_mut_ptr());
+        let reply = unsafe { zopredil_inverse_dct_add_into(block, length, at, 64, 8, sub_row, 0, count, counts) };
+        (reply, plane == [MARK; 64], clipped)
+    };
+    for length in [0, 15, 17] {
+        assert_eq!(added(length, 0, 1), (1, true, [COUNT; 2]));
+        assert_eq!(added(length, 2, 1), (1, true, [COUNT; 2])); // 1 comes before 2
+    }
+    for counts in [0, 2] {
+        assert_eq!(added(16, 0, counts), (1, true, [COUNT; 2]));
+        assert_eq!(added(16, 2, counts), (1, true, [COUNT; 2]));
+    }
+    assert_eq!(added(16, 2, 1), (2, true, [0, COUNT]));
+    assert_eq!((added(16, 1, 1).0, added(16, 1, 1).2[1]), (0, COUNT));
 }
 
 #[test]

@@ -77,10 +77,32 @@ impl Owned {
         self.cols * self.rows
     }
 
-    fn drawn_alone(&self) -> Planes {
+    /// Gathered and drawn one macroblock after another: the planes, and the clipped sums of each.
+    fn one_by_one(&self) -> (Planes, Vec<u64>) {
+        let (cols, rows) = (self.cols, self.rows);
         let mut planes = Planes::marked(self.count());
-        still_alone(&self.lent(), planes.lent()).unwrap();
-        planes
+        let mut counts = Vec::new();
+        for k in 0..self.count() {
+            let (row, col) = (k / cols, k % cols);
+            let right = if row == 0 { [0; 4] } else { right_pixels(&planes.y, cols, rows, row).unwrap() };
+            let edges = gather(&planes.y, &planes.u, &planes.v, cols, rows, col, row, right).unwrap();
+            let [y, uv, skip] = self.modes[3 * k..3 * k + 3].try_into().unwrap();
+            let modes = MbModes {
+                y: IntraYMode::from_number(y).unwrap(),
+                uv: IntraUvMode::from_number(uv).unwrap(),
+                skip: skip == 1,
+            };
+            let sub_modes = std::array::from_fn(|i| IntraBmode::from_number(self.sub_modes[16 * k + i]).unwrap());
+            let coeffs = self.coeffs[400 * k..][..400].try_into().unwrap();
+            let drawn = macroblock(modes, Some(&sub_modes), &edges, coeffs).unwrap();
+            for ((plane, n), pixels) in planes.each().into_iter().zip([&drawn.y[..], &drawn.u, &drawn.v]) {
+                for (line, pixels) in pixels.chunks(n).enumerate() {
+                    plane[(n * row + line) * n * cols + n * col..][..n].copy_from_slice(pixels);
+                }
+            }
+            counts.push(drawn.clipped);
+        }
+        (planes, counts)
     }
 
     /// The four pixels of each row after the first that `still_alone` takes.
@@ -89,18 +111,41 @@ impl Owned {
     }
 }
 
-const UNKNOWN: fn(usize) -> Result<(), StillRefused> =
-    |macroblock| Err(StillRefused { reply: Reply::UnknownByte, macroblock });
+/// A still that is refused at a macroblock, after sums were clipped in those before it.
+fn unknown(macroblock: usize, clipped: u64) -> Result<u64, StillRefused> {
+    Err(StillRefused { reply: Reply::UnknownByte, macroblock, clipped })
+}
 
 #[test]
 fn alone_is_with_the_pixels_of_the_row_above() {
     for (cols, rows) in [(1, 1), (1, 4), (5, 1), (4, 5)] {
         let given = Owned::new(cols, rows);
-        let alone = given.drawn_alone();
-        let mut with = Planes::marked(given.count());
-        still(&given.lent(), &given.right_of(&alone), with.lent()).unwrap();
+        let (mut alone, mut with) = (Planes::marked(given.count()), Planes::marked(given.count()));
+        let clipped = still_alone(&given.lent(), alone.lent());
+        assert_eq!(still(&given.lent(), &given.right_of(&alone), with.lent()), clipped);
         assert_eq!(with, alone);
     }
+}
+
+#[test]
+fn a_still_is_its_macroblocks_one_after_another() {
+    for (cols, rows) in [(1, 1), (1, 4), (5, 1), (4, 5), (7, 3)] {
+        let given = Owned::new(cols, rows);
+        let (planes, counts) = given.one_by_one();
+        let mut drawn = Planes::marked(given.count());
+        assert_eq!(still_alone(&given.lent(), drawn.lent()), Ok(counts.iter().sum()));
+        assert_eq!(drawn, planes);
+    }
+    assert!(Owned::new(4, 5).one_by_one().1.iter().filter(|&&count| count > 0).count() > 3);
+}
+
+#[test]
+fn a_skipped_still_has_no_clipped_sums() {
+    let mut given = Owned::new(4, 5);
+    given.coeffs.fill(i16::MAX);
+    assert!(still_alone(&given.lent(), Planes::marked(20).lent()).unwrap() > 0);
+    given.modes.chunks_mut(3).for_each(|modes| modes[2] = 1);
+    assert_eq!(still_alone(&given.lent(), Planes::marked(20).lent()), Ok(0));
 }
 
 #[test]
@@ -163,18 +208,19 @@ fn the_given_pixels_reach_the_last_column_only() {
 #[test]
 fn a_damaged_still_keeps_what_is_finished() {
     let (cols, rows) = (4, 3);
-    let whole = Owned::new(cols, rows).drawn_alone();
+    let (whole, counts) = Owned::new(cols, rows).one_by_one();
     for index in 0..cols * rows {
+        let refused = unknown(index, counts[..index].iter().sum());
         for (part, byte) in [(0, 5), (0, 255), (1, 4), (2, 2)] {
             let mut given = Owned::new(cols, rows);
             given.modes[3 * index + part] = byte;
             let mut planes = Planes::marked(cols * rows);
-            assert_eq!(still_alone(&given.lent(), planes.lent()), UNKNOWN(index));
+            assert_eq!(still_alone(&given.lent(), planes.lent()), refused);
             let mut kept = whole.clone();
             kept.mark_from(cols, rows, index);
             assert_eq!(planes, kept);
             let mut planes = Planes::marked(cols * rows);
-            assert_eq!(still(&given.lent(), &given.right_of(&whole), planes.lent()), UNKNOWN(index));
+            assert_eq!(still(&given.lent(), &given.right_of(&whole), planes.lent()), refused);
             assert_eq!(planes, kept);
         }
     }
@@ -186,14 +232,14 @@ fn sub_block_bytes_are_looked_at_in_mode_b_only() {
         for place in 0..16 {
             let mut given = Owned::new(3, 1);
             given.modes[3] = luma;
-            let good = given.drawn_alone();
+            let (good, counts) = given.one_by_one();
             given.sub_modes[16 + place] = 10;
             let mut planes = Planes::marked(3);
             let answered = still_alone(&given.lent(), planes.lent());
             if luma == 4 {
-                assert_eq!(answered, UNKNOWN(1));
+                assert_eq!(answered, unknown(1, counts[0]));
             } else {
-                assert_eq!((answered, planes), (Ok(()), good));
+                assert_eq!((answered, planes), (Ok(counts.iter().sum()), good));
             }
         }
     }
@@ -202,15 +248,17 @@ fn sub_block_bytes_are_looked_at_in_mode_b_only() {
 #[test]
 fn the_first_wrong_macroblock_is_named() {
     let mut given = Owned::new(2, 2);
+    let (_, counts) = given.one_by_one();
     given.modes[3 * 3] = 9;
     given.modes[3 * 2 + 2] = 9;
-    assert_eq!(still_alone(&given.lent(), Planes::marked(4).lent()), UNKNOWN(2));
-    assert_eq!(UNKNOWN(2).unwrap_err().to_string(), format!("macroblock 2: {}", Reply::UnknownByte));
+    let refused = unknown(2, counts[0] + counts[1]);
+    assert_eq!(still_alone(&given.lent(), Planes::marked(4).lent()), refused);
+    assert_eq!(refused.unwrap_err().to_string(), format!("macroblock 2: {}", Reply::UnknownByte));
 }
 
 #[test]
 fn sizes_outside_the_limits() {
-    let refused = Err(StillRefused { reply: Reply::OutsidePicture, macroblock: 0 });
+    let refused = Err(StillRefused { reply: Reply::OutsidePicture, macroblock: 0, clipped: 0 });
     let given = Owned::new(1, 1);
     for (cols, rows) in [(0, 1), (1, 0), (0, 0), (1025, 1), (1, 1025), (1 << 32, 1 << 32), (usize::MAX, usize::MAX)] {
         let one = Still { cols, rows, ..given.lent() };
@@ -225,7 +273,7 @@ fn sizes_outside_the_limits() {
 
 #[test]
 fn wrong_lengths() {
-    let refused = Err(StillRefused { reply: Reply::WrongLength, macroblock: 0 });
+    let refused = Err(StillRefused { reply: Reply::WrongLength, macroblock: 0, clipped: 0 });
     let mut given = Owned::new(3, 3);
     given.modes[0] = 99; // 1 comes before 8
     let large = Owned::new(5, 2);
@@ -253,5 +301,52 @@ fn wrong_lengths() {
     }
     let mut planes = Planes::marked(10);
     assert_eq!(still(&given.lent(), &right[..8], planes.part(2304, 576, 575)), refused);
-    assert_eq!(still(&given.lent(), &right[..8], planes.part(2304, 576, 576)), UNKNOWN(0));
+    assert_eq!(still(&given.lent(), &right[..8], planes.part(2304, 576, 576)), unknown(0, 0));
+}
+
+/// Draws a still alone through the C interface: the answer, and what stands in two counts afterwards, of which some are
+/// lent.
+fn counted(given: &Still<'_>, planes: &mut Planes, counts: usize) -> (u64, [u64; 2]) {
+    let mut clipped = [u64::MAX; 2];
+    let answered = unsafe {
+        raw::zopredil_still_alone(
+            given.cols,
+            given.rows,
+            given.modes.as_ptr(),
+            given.modes.len(),
+            given.sub_modes.as_ptr(),
+            given.sub_modes.len(),
+            given.coeffs.as_ptr(),
+            given.coeffs.len(),
+            planes.y.as_mut_ptr(),
+            planes.y.len(),
+            planes.u.as_mut_ptr(),
+            planes.u.len(),
+            planes.v.as_mut_ptr(),
+            planes.v.len(),
+            clipped.as_mut_ptr(),
+            counts,
+        )
+    };
+    (answered, clipped)
+}
+
+#[test]
+fn lengths_of_the_count() {
+    let mut given = Owned::new(2, 1);
+    given.modes[3] = 9;
+    let (fit, none) = (given.lent(), u64::MAX);
+    let short = Still { modes: &[0; 5], ..fit };
+    let large = Still { cols: 1025, ..fit };
+    let mut planes = Planes::marked(2);
+    for counts in [0, 2] {
+        assert_eq!(counted(&fit, &mut planes, counts), (1, [none; 2])); // 1 comes before 8
+        assert_eq!(counted(&short, &mut planes, counts), (1, [none; 2]));
+        assert_eq!(counted(&large, &mut planes, counts), (7, [none; 2])); // 7 comes before 1
+    }
+    assert_eq!(counted(&short, &mut planes, 1), (1, [0, none]));
+    assert_eq!(counted(&large, &mut planes, 1), (7, [0, none]));
+    assert_eq!(planes, Planes::marked(2));
+    let (answered, clipped) = counted(&fit, &mut planes, 1);
+    assert_eq!((answered, clipped[1]), (256 + 8, none));
 }

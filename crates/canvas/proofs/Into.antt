@@ -12,7 +12,7 @@ use Rattle.gathering.specs.Answers.{gathered}
 use Rattle.reconstruct.specs.declared.ReconstructedMb.{ReconstructedMb}
 use Rattle.drawing.specs.Drawn.{drawn}
 use Rattle.canvas.specs.Placed.{placed}
-use Rattle.canvas.specs.Drawn.{made, drawnInto}
+use Rattle.canvas.specs.Drawn.{made, drawnInto, clippedInto}
 
 module _ (w h c r luma chroma skip : ℕ) (subs right : List ℕ) (coeffs : List ℤ) (y u v : List ℕ) (g : Gathered) (e : g ≡ gathered y u v w h c r right) where
   pub not-gathered : (g .reply ≡ 0 → ⊥)
@@ -20,10 +20,18 @@ module _ (w h c r luma chroma skip : ℕ) (subs right : List ℕ) (coeffs : List
   unfolding drawnInto
   not-gathered k = rw (← e, ne-eqb (g .reply) 0 k)
 
+  pub not-counted : (g .reply ≡ 0 → ⊥) → 0 ≡ clippedInto w h c r luma chroma skip subs right coeffs y u v
+  unfolding clippedInto
+  not-counted k = rw (← e, ne-eqb (g .reply) 0 k)
+
   module _ (z : g .reply ≡ 0) (m : ReconstructedMb) (d : m ≡ drawn luma chroma skip subs true (g .neighbors) coeffs) where
     is-made : m ≡ made w h c r luma chroma skip subs right coeffs y u v
     unfolding made
     is-made = rw (← e) d
+
+    pub counted : m .clipped ≡ clippedInto w h c r luma chroma skip subs right coeffs y u v
+    unfolding clippedInto
+    counted = rw (← e, eq-eqb (g .reply) 0 z, ← is-made)
 
     pub not-drawn : (m .reply ≡ 0 → ⊥) → (m .reply beside y beside u beside v) ≡ drawnInto w h c r luma chroma skip subs right coeffs y u v
     unfolding drawnInto

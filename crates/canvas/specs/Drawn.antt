@@ -27,3 +27,7 @@ module _ (w h c r luma chroma skip : ℕ) (subs right : List ℕ) (coeffs : List
       (done beside placed 16 w r c (made .y) y beside placed 8 w r c (made .u) u beside placed 8 w r c (made .v) v)
       (made .reply beside y beside u beside v))
       (gathered y u v w h c r right .reply beside y beside u beside v)
+
+  -- how many sums of it were below 0 or above 255; 0 where it is refused
+  unfoldable pub clippedInto : ℕ
+  clippedInto = pick (eqb (gathered y u v w h c r right .reply) done) (made .clipped) 0

@@ -6,9 +6,15 @@ ghost use Rattle.lists.specs.Lists.{turns, store};
 ghost use Rattle.slices.specs.Copies.{_beside_};
 ghost use Rattle.picture_limits.specs.Place.{Placed};
 ghost use Rattle.canvas.specs.Placed.{placed};
-ghost use Rattle.canvas.specs.Drawn.{drawnInto};
+ghost use Rattle.canvas.specs.Drawn.{drawnInto, clippedInto};
 use macroblock::reply;
 use reconstruct::ReconstructedMb;
+
+// The reply, and how many sums were below 0 or above 255.
+pub struct DrawnMb {
+    pub reply: u32,
+    pub clipped: u32,
+}
 
 // n pixels of the block from `from` on, put from `at` on.
 fn place_row(plane: &mut [u8], at: usize, block: &[u8], from: usize, n: usize)
@@ -71,19 +77,29 @@ pub fn draw_macroblock(
     y: &mut [u8],
     u: &mut [u8],
     v: &mut [u8],
-) -> u32
-    ensures { λ r. ⌜ (r beside now (y .exit) beside now (u .exit) beside now (v .exit))
-        ≡ drawnInto cols rows col row luma chroma skip «sub_modes» right (now (coeffs .entry)) (now (y .entry)) (now (u .entry)) (now (v .entry)) ⌝ }
+) -> DrawnMb
+    ensures { λ r. ⌜ ((r .reply beside now (y .exit) beside now (u .exit) beside now (v .exit))
+        ≡ drawnInto cols rows col row luma chroma skip «sub_modes» right (now (coeffs .entry)) (now (y .entry)) (now (u .entry)) (now (v .entry)))
+        × (r .clipped ≡ clippedInto cols rows col row luma chroma skip «sub_modes» right (now (coeffs .entry)) (now (y .entry)) (now (u .entry)) (now (v .entry))) ⌝ }
 {
     let gathered = gathering::gather(y, u, v, cols, rows, col, row, right);
     if gathered.reply != reply::DONE {
-        return gathered.reply;
+        return DrawnMb {
+            reply: gathered.reply,
+            clipped: 0,
+        };
     }
     let neighbors = gathered.neighbors;
     let drawn = drawing::draw(luma, chroma, skip, sub_modes, true, neighbors, coeffs);
     if drawn.reply != reply::DONE {
-        return drawn.reply;
+        return DrawnMb {
+            reply: drawn.reply,
+            clipped: drawn.clipped,
+        };
     }
     put(drawn, cols, row, col, y, u, v);
-    reply::DONE
+    DrawnMb {
+        reply: reply::DONE,
+        clipped: drawn.clipped,
+    }
 }

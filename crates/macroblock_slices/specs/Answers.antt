@@ -1,8 +1,8 @@
 -- One macroblock over lent slices: three mode bytes, sixteen sub-block bytes or none, 81 record bytes, 400 coefficients, and 384 bytes (Y, U, V) to
--- write. Another length is reply 1, and nothing is written; every other refusal writes zeros.
+-- write, and a count of the sums that were below 0 or above 255. Another length is reply 1, and nothing is written; every other refusal writes zeros.
 use Prim.Native.Nat.{ℕ}
 use mathlib.Core.Bool.{Bool, true}
-use mathlib.Core.List.{List, _++_}
+use mathlib.Core.List.{List, [], _∷_, _++_}
 use lib.Dec.{eqb}
 use lib.IntN.{ℤ}
 use lib.ListN.{length, getD, replicate}
@@ -16,17 +16,17 @@ use Rattle.drawing.specs.Drawn.{drawn}
 unfoldable pub subModesFit : ℕ → Bool
 subModesFit subs = pick (eqb subs 16) true (eqb subs 0)
 
-unfoldable pub lengthsFit : ℕ → ℕ → ℕ → ℕ → ℕ → Bool
-lengthsFit modes subs edges coeffs out =
-    both (eqb modes 3) (both (subModesFit subs) (both (eqb edges 81) (both (eqb coeffs 400) (eqb out 384))))
+unfoldable pub lengthsFit : ℕ → ℕ → ℕ → ℕ → ℕ → ℕ → Bool
+lengthsFit modes subs edges coeffs out clipped =
+    both (eqb modes 3) (both (subModesFit subs) (both (eqb edges 81) (both (eqb coeffs 400) (both (eqb out 384) (eqb clipped 1)))))
 
 -- the planes one after another
 unfoldable pub planesOf : ReconstructedMb → List ℕ
 planesOf r = r .y ++ (r .u ++ r .v)
 
-unfoldable pub mbAnswer : List ℕ → List ℕ → List ℕ → List ℤ → List ℕ → ℕ × List ℕ
-mbAnswer modes subs edges coeffs out =
+unfoldable pub mbAnswer : List ℕ → List ℕ → List ℕ → List ℤ → List ℕ → List ℕ → ℕ × (List ℕ × List ℕ)
+mbAnswer modes subs edges coeffs out clipped =
     let r = drawn (getD modes 0 0) (getD modes 1 0) (getD modes 2 0) (orZeros 0 16 subs) (sized 16 subs) (recordOf edges) coeffs in
-    pick (lengthsFit (length modes) (length subs) (length edges) (length coeffs) (length out))
-    (pick (marksKnown edges) (r .reply beside planesOf r) (unknownByte beside replicate 384 0))
-    (wrongLength beside out)
+    pick (lengthsFit (length modes) (length subs) (length edges) (length coeffs) (length out) (length clipped))
+    (pick (marksKnown edges) (r .reply beside planesOf r beside r .clipped ∷ []) (unknownByte beside replicate 384 0 beside 0 ∷ []))
+    (wrongLength beside out beside clipped)

@@ -1,6 +1,6 @@
 // One macroblock over lent slices; `edges` is its neighbour record as 81 bytes.
 ghost use mathlib.Core.Path.{_≡_};
-ghost use mathlib.Core.List.{_++_};
+ghost use mathlib.Core.List.{_++_, _∷_, []};
 ghost use lib.ListN.{length};
 ghost use Rattle.slices.specs.Copies.{_beside_};
 ghost use Rattle.macroblock_slices.specs.Answers.{subModesFit, lengthsFit, mbAnswer};
@@ -15,8 +15,15 @@ fn sub_modes_fit(sub_modes: usize) -> bool
     sub_modes == 0
 }
 
-fn lengths_fit(modes: usize, sub_modes: usize, edges: usize, coeffs: usize, out: usize) -> bool
-    ensures { λ r. ⌜ r ≡ lengthsFit modes «sub_modes» edges coeffs out ⌝ }
+fn lengths_fit(
+    modes: usize,
+    sub_modes: usize,
+    edges: usize,
+    coeffs: usize,
+    out: usize,
+    clipped: usize,
+) -> bool
+    ensures { λ r. ⌜ r ≡ lengthsFit modes «sub_modes» edges coeffs out clipped ⌝ }
 {
     if modes != 3 {
         return false;
@@ -30,7 +37,10 @@ fn lengths_fit(modes: usize, sub_modes: usize, edges: usize, coeffs: usize, out:
     if coeffs != 400 {
         return false;
     }
-    out == 384
+    if out != 384 {
+        return false;
+    }
+    clipped == 1
 }
 
 // Y, U and V, one after another.
@@ -43,31 +53,43 @@ fn lay(out: &mut [u8], y: [u8; 256], u: [u8; 64], v: [u8; 64])
     slices::put_chroma(&mut out[320..384], v);
 }
 
-// The macroblock that the bytes stand for, 384 pixels: Y, U, V. Refused, in this order: a slice of another length (reply 1,
+fn put_count(to: &mut [u64], n: u64)
+    requires { ⌜ length (now to) ≡ 1 ⌝ }
+    ensures { λ _. ⌜ now (to .exit) ≡ n ∷ [] ⌝ }
+{
+    to[0] = n;
+}
+
+// The macroblock that the bytes stand for, 384 pixels: Y, U, V; and into clipped, a slice of 1, how many sums were below 0 or
+// above 255. Refused, in this order: a slice of another length (reply 1,
 // nothing written), a mode, skip or mark byte that says nothing, in luma mode B a sub-block byte too (8, zeros written),
-// luma mode B without sub-block modes (4, zeros written).
+// luma mode B without sub-block modes (4, zeros written); the count is 0 then.
 pub fn macroblock(
     modes: &[u8],
     sub_modes: &[u8],
     edges: &[u8],
     coeffs: &[i16],
     out: &mut [u8],
+    clipped: &mut [u64],
 ) -> u32
-    ensures { λ r. ⌜ (r beside now (out .exit))
-        ≡ mbAnswer (now (modes .entry)) (now («sub_modes» .entry)) (now (edges .entry)) (now (coeffs .entry)) (now (out .entry)) ⌝ }
+    ensures { λ r. ⌜ (r beside now (out .exit) beside now (clipped .exit))
+        ≡ mbAnswer (now (modes .entry)) (now («sub_modes» .entry)) (now (edges .entry)) (now (coeffs .entry)) (now (out .entry)) (now (clipped .entry)) ⌝ }
 {
-    if !lengths_fit(
+    let fit = lengths_fit(
         modes.len(),
         sub_modes.len(),
         edges.len(),
         coeffs.len(),
         out.len(),
-    ) {
+        clipped.len(),
+    );
+    if !fit {
         return reply::WRONG_LENGTH;
     }
     let bytes = slices::record_of(edges);
     if !record_bytes::marks_known(bytes) {
         slices::clear(out);
+        put_count(clipped, 0);
         return reply::UNKNOWN_BYTE;
     }
     let subs = slices::sixteen(sub_modes);
@@ -88,5 +110,6 @@ pub fn macroblock(
     let u = drawn.u;
     let v = drawn.v;
     lay(out, y, u, v);
+    put_count(clipped, drawn.clipped as u64);
     drawn.reply
 }

@@ -15,7 +15,9 @@ use Rattle.rfc6386.specs.Residue.{sum}
 use Rattle.rfc6386.specs.Walk.{blockAt, seeded, addedBlocks}
 use Rattle.blocks.specs.Taken.{residuesFrom}
 use Rattle.blocks.proofs.Places.{residues-at}
-use Rattle.planes.specs.Steps.{groupAdded, rowAdded}
+use Rattle.clipping.specs.Clipped.{total, over, blocksClipped}
+use Rattle.clipping.proofs.Total.{total-ext, total-flat}
+use Rattle.planes.specs.Steps.{groupAdded, rowAdded, groupClipped, rowClipped}
 use Rattle.planes.proofs.Seeded.{rowOf, seeded-residue}
 
 module _ (coeffs : List ℤ) (p : List ℕ) where
@@ -51,4 +53,35 @@ module _ (coeffs : List ℤ) (p : List ℕ) where
       ∙ rows-ext 8 8 _ _ λ r c l k.
       let i : 16 * (r % 4) + 8 * (r / 4) + c ≡ 16 * (r % 4) + 4 * (2 * (r / 4) + c / 4) + c % 4 = omega arith in
       ap (λ (z : ℤ). sum (getD p (r * 8 + c) 0) z)
+      (rw i (residues-at coeffs base (r % 4) (2 * (r / 4) + c / 4) (c % 4) (omega arith) (omega arith) (omega arith)))
+
+  -- ---- and their counts
+  flat-over : ℕ → ℕ
+  flat-over n = over (getD p n 0) (getD (idctFour (rowOf coeffs (n / 64))) (n % 64) (pos 0))
+
+  over-group : (i k : ℕ) → i < 4 → k < 64 → over (getD p (i * 64 + k) 0) (getD (idctFour (rowOf coeffs i)) k (pos 0)) ≡ flat-over (i * 64 + k)
+  unfolding flat-over
+  over-group i k hi hk =
+      let q : (i * 64 + k) / 64 ≡ i = omega arith in
+      let m : (i * 64 + k) % 64 ≡ k = omega arith in
+      rw (q, m)
+
+  over-row : (r c : ℕ) → r < 16 → c < 16 → over (getD p (r * 16 + c) 0) (residue (seeded coeffs (4 * (r / 4) + c / 4)) (r % 4) (c % 4)) ≡ flat-over (r * 16 + c)
+  unfolding flat-over
+  over-row r c hr hc =
+      let q : (r * 16 + c) / 64 ≡ r / 4 = omega arith in
+      let m : (r * 16 + c) % 64 ≡ 16 * (r % 4) + c = omega arith in
+      rw (q, m, seeded-residue coeffs (r / 4) (omega arith) (r % 4) c (omega arith) hc)
+
+  pub luma-clipped : total 4 (λ i. groupClipped p (idctFour (rowOf coeffs i)) i) ≡ blocksClipped 16 p (seeded coeffs)
+  unfolding groupClipped blocksClipped
+  luma-clipped = total-flat 64 4 _ flat-over over-group ∙ sym (total-flat 16 16 _ flat-over over-row)
+
+  pub chroma-clipped : (base : ℕ) → total 8 (rowClipped p (residuesFrom coeffs base)) ≡ blocksClipped 8 p (blockAt coeffs base)
+  unfolding rowClipped blocksClipped
+  chroma-clipped base =
+      total-ext 8 _ _ λ r l.
+      total-ext 8 _ _ λ c k.
+      let i : 16 * (r % 4) + 8 * (r / 4) + c ≡ 16 * (r % 4) + 4 * (2 * (r / 4) + c / 4) + c % 4 = omega arith in
+      ap (λ (z : ℤ). over (getD p (r * 8 + c) 0) z)
       (rw i (residues-at coeffs base (r % 4) (2 * (r / 4) + c / 4) (c % 4) (omega arith) (omega arith) (omega arith)))

@@ -8,11 +8,18 @@
 //                          2 2 3 3
 ghost use mathlib.Core.Path.{_≡_};
 ghost use Prim.Native.Nat.{_<_};
-ghost use lib.ListN.{length};
-ghost use Rattle.rfc6386.specs.Walk.{blockAt, addedBlocks, plane, uPlane, vPlane};
-ghost use Rattle.planes.specs.Steps.{rowAdded};
+ghost use Rattle.lists.specs.Lists.{turns};
+ghost use Rattle.clipping.specs.Clipped.{total};
+ghost use Rattle.planes.specs.Steps.{rowAdded, rowClipped};
+ghost use Rattle.planes.specs.Drawn.{chromaOf, uDrawn, vDrawn};
 use macroblock::IntraUvMode;
 use macroblock::MbNeighbors;
+
+// The pixels of U or V, and how many sums were below 0 or above 255.
+pub struct ChromaPlane {
+    pub pixels: [u8; 64],
+    pub clipped: u32,
+}
 
 fn add_row(px: &mut [u8; 64], r: usize, o: [i16; 64])
     requires { ⌜ r < 8 ⌝ }
@@ -24,25 +31,54 @@ fn add_row(px: &mut [u8; 64], r: usize, o: [i16; 64])
     }
 }
 
-fn add_blocks(px: &mut [u8; 64], coeffs: &[i16], base: usize)
-    requires { ⌜ length (now px) ≡ 64 ⌝ }
-    ensures { λ _. ⌜ now (px .exit) ≡ addedBlocks 8 (now (px .entry)) (blockAt (now (coeffs .entry)) base) ⌝ }
+fn add_blocks(px: &mut [u8; 64], o: [i16; 64])
+    ensures { λ _. ⌜ now (px .exit) ≡ turns 8 (rowAdded o) (now (px .entry)) ⌝ }
 {
-    let o = blocks::residues(coeffs, base);
     for r in 0..8 {
         add_row(px, r, o);
     }
 }
 
-fn plane(prediction: [u8; 64], skip: bool, coeffs: &[i16], base: usize) -> [u8; 64]
-    ensures { λ r. ⌜ r ≡ plane 8 skip prediction (blockAt (now (coeffs .entry)) base) ⌝ }
+// How many sums of row r are outside 0 and 255.
+fn row_clipped(px: &[u8; 64], r: usize, o: &[i16; 64]) -> u32
+    requires { ⌜ r < 8 ⌝ }
+    ensures { λ n. ⌜ n ≡ rowClipped (now (px .entry)) (now (o .entry)) r ⌝ }
 {
-    let mut px = prediction;
-    if skip {
-        return px;
+    let start = 16 * (r % 4) + 8 * (r / 4);
+    let mut n = 0u32;
+    for c in 0..8 {
+        n = n + clipping::over(px[r * 8 + c], o[start + c]);
     }
-    add_blocks(&mut px, coeffs, base);
-    px
+    n
+}
+
+fn clipped(px: &[u8; 64], o: &[i16; 64]) -> u32
+    ensures { λ n. ⌜ n ≡ total 8 (rowClipped (now (px .entry)) (now (o .entry))) ⌝ }
+{
+    let mut n = 0u32;
+    for r in 0..8 {
+        n = n + row_clipped(px, r, o);
+    }
+    n
+}
+
+fn plane(prediction: [u8; 64], skip: bool, coeffs: &[i16], base: usize) -> ChromaPlane
+    ensures { λ r. ⌜ r ≡ chromaOf prediction skip (now (coeffs .entry)) base ⌝ }
+{
+    if skip {
+        return ChromaPlane {
+            pixels: prediction,
+            clipped: 0,
+        };
+    }
+    let o = blocks::residues(coeffs, base);
+    let n = clipped(&prediction, &o);
+    let mut px = prediction;
+    add_blocks(&mut px, o);
+    ChromaPlane {
+        pixels: px,
+        clipped: n,
+    }
 }
 
 // U, from its four blocks of coefficients from `base` on.
@@ -52,8 +88,8 @@ pub fn u_plane(
     neighbors: MbNeighbors,
     coeffs: &[i16],
     base: usize,
-) -> [u8; 64]
-    ensures { λ r. ⌜ r ≡ uPlane mode skip neighbors (now (coeffs .entry)) base ⌝ }
+) -> ChromaPlane
+    ensures { λ r. ⌜ r ≡ uDrawn mode skip neighbors (now (coeffs .entry)) base ⌝ }
 {
     let above = neighbors.u_above;
     let left = neighbors.u_left;
@@ -80,8 +116,8 @@ pub fn v_plane(
     neighbors: MbNeighbors,
     coeffs: &[i16],
     base: usize,
-) -> [u8; 64]
-    ensures { λ r. ⌜ r ≡ vPlane mode skip neighbors (now (coeffs .entry)) base ⌝ }
+) -> ChromaPlane
+    ensures { λ r. ⌜ r ≡ vDrawn mode skip neighbors (now (coeffs .entry)) base ⌝ }
 {
     let above = neighbors.v_above;
     let left = neighbors.v_left;

@@ -3,6 +3,8 @@
 mod chroma;
 mod luma;
 
+pub use chroma::ChromaPlane;
 pub use chroma::u_plane;
 pub use chroma::v_plane;
+pub use luma::LumaPlane;
 pub use luma::y_whole;

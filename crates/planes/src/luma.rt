@@ -3,10 +3,18 @@ ghost use mathlib.Core.Path.{_≡_};
 ghost use Prim.Native.Nat.{_<_};
 ghost use lib.ListN.{length, take};
 ghost use Rattle.rfc6386.specs.Wht.{iwht};
-ghost use Rattle.rfc6386.specs.Walk.{seeded, addedBlocks, yPrediction, yWhole};
-ghost use Rattle.planes.specs.Steps.{seededFour, groupAdded};
+ghost use Rattle.rfc6386.specs.Dct.{idctFour};
+ghost use Rattle.rfc6386.specs.Walk.{yPrediction};
+ghost use Rattle.planes.specs.Steps.{seededFour, groupAdded, groupClipped};
+ghost use Rattle.planes.specs.Drawn.{lumaCoded, yDrawn};
 use macroblock::IntraYMode;
 use macroblock::MbNeighbors;
+
+// The pixels of Y, and how many sums were below 0 or above 255.
+pub struct LumaPlane {
+    pub pixels: [u8; 256],
+    pub clipped: u32,
+}
 
 // By the mode. Mode B predicts its sub-blocks one by one: zero pixels stand for its 16x16 prediction.
 fn predicted(mode: IntraYMode, neighbors: MbNeighbors) -> [u8; 256]
@@ -64,24 +72,54 @@ fn add_group(px: &mut [u8; 256], i: usize, o: [i16; 64])
     }
 }
 
-fn add_blocks(px: &mut [u8; 256], coeffs: &[i16])
-    requires { ⌜ length (now px) ≡ 256 ⌝ }
-    ensures { λ _. ⌜ now (px .exit) ≡ addedBlocks 16 (now (px .entry)) (seeded (now (coeffs .entry))) ⌝ }
+// How many sums of block row i are outside 0 and 255.
+fn group_clipped(px: &[u8; 256], i: usize, o: &[i16; 64]) -> u32
+    requires { ⌜ i < 4 ⌝ }
+    ensures { λ n. ⌜ n ≡ groupClipped (now (px .entry)) (now (o .entry)) i ⌝ }
+{
+    let mut n = 0u32;
+    for k in 0..64 {
+        n = n + clipping::over(px[i * 64 + k], o[k]);
+    }
+    n
+}
+
+// The residues of block row i.
+fn residues_of(coeffs: &[i16], dcs: [i16; 16], i: usize) -> [i16; 64]
+    requires { ⌜ i < 4 ⌝ }
+    ensures { λ r. ⌜ r ≡ idctFour (seededFour (now (coeffs .entry)) dcs i) ⌝ }
+{
+    dct::inverse_dct_four(seeded_four(coeffs, dcs, i))
+}
+
+fn coded(prediction: [u8; 256], coeffs: &[i16]) -> LumaPlane
+    requires { ⌜ length prediction ≡ 256 ⌝ }
+    ensures { λ r. ⌜ r ≡ lumaCoded prediction (now (coeffs .entry)) ⌝ }
 {
     let dcs = seeds(coeffs);
+    let mut px = prediction;
+    let mut n = 0u32;
     for i in 0..4 {
-        add_group(px, i, dct::inverse_dct_four(seeded_four(coeffs, dcs, i)));
+        let o = residues_of(coeffs, dcs, i);
+        n = n + group_clipped(&prediction, i, &o);
+        add_group(&mut px, i, o);
+    }
+    LumaPlane {
+        pixels: px,
+        clipped: n,
     }
 }
 
 // The luma of a macroblock in a 16x16 mode, from 400 coefficients: the Y2 block, then the sixteen Y blocks.
-pub fn y_whole(mode: IntraYMode, skip: bool, neighbors: MbNeighbors, coeffs: &[i16]) -> [u8; 256]
-    ensures { λ r. ⌜ r ≡ yWhole mode skip neighbors (now (coeffs .entry)) ⌝ }
+pub fn y_whole(mode: IntraYMode, skip: bool, neighbors: MbNeighbors, coeffs: &[i16]) -> LumaPlane
+    ensures { λ r. ⌜ r ≡ yDrawn mode skip neighbors (now (coeffs .entry)) ⌝ }
 {
-    let mut px = predicted(mode, neighbors);
+    let px = predicted(mode, neighbors);
     if skip {
-        return px;
+        return LumaPlane {
+            pixels: px,
+            clipped: 0,
+        };
     }
-    add_blocks(&mut px, coeffs);
-    px
+    coded(px, coeffs)
 }

@@ -5,6 +5,7 @@
 --     Demand3      demand 3 of every pixel of an accepted macroblock
 --     OneAnswer    each promise admits one answer only
 pub mod Replies
+pub mod Counts
 pub mod Unread
 pub mod Skipped
 pub mod Demand3

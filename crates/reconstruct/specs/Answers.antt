@@ -1,5 +1,5 @@
 -- The answers of the two walkers: a reply and three planes. The planes are those of RFC 6386, `Walk`; beside a refusal they are 0.
-use Prim.Native.Nat.{ℕ}
+use Prim.Native.Nat.{ℕ, _+_}
 use mathlib.Core.Bool.{Bool}
 use mathlib.Core.List.{List}
 use lib.Dec.{eqb}
@@ -14,11 +14,12 @@ use Rattle.macroblock.specs.declared.modes.MbModes.{MbModes}
 use Rattle.macroblock.specs.declared.neighbors.MbNeighbors.{MbNeighbors}
 use Rattle.rfc6386.specs.Edges.{isB}
 use Rattle.rfc6386.specs.Walk.{yWhole, yParts, uPlane, vPlane}
+use Rattle.clipping.specs.Clipped.{yWholeClipped, yPartsClipped, uClipped, vClipped}
 use Rattle.reconstruct.specs.declared.ReconstructedMb.{ReconstructedMb}
 
 -- the number, and zero pixels
 unfoldable pub refusal : ℕ → ReconstructedMb
-refusal k = record { reply = k; y = replicate 256 0; u = replicate 64 0; v = replicate 64 0 }
+refusal k = record { reply = k; y = replicate 256 0; u = replicate 64 0; v = replicate 64 0; clipped = 0 }
 
 -- ---- the four 16x16 luma modes: 400 coefficients, U's from 272 on and V's from 336 on
 unfoldable pub wholeOf : IntraYMode → IntraUvMode → Bool → MbNeighbors → List ℤ → ReconstructedMb
@@ -28,6 +29,7 @@ wholeOf y uv skip n coeffs =
       y = yWhole y skip n coeffs;
       u = uPlane uv skip n coeffs 272;
       v = vPlane uv skip n coeffs 336;
+      clipped = yWholeClipped y skip n coeffs + uClipped uv skip n coeffs 272 + vClipped uv skip n coeffs 336;
     }
 
 unfoldable pub nonB : MbModes → MbNeighbors → List ℤ → ReconstructedMb
@@ -43,6 +45,7 @@ partsOf modes uv skip n coeffs =
       y = yParts modes skip n coeffs;
       u = uPlane uv skip n coeffs 256;
       v = vPlane uv skip n coeffs 320;
+      clipped = yPartsClipped modes skip n coeffs + uClipped uv skip n coeffs 256 + vClipped uv skip n coeffs 320;
     }
 
 unfoldable pub walkB : List IntraBmode → Bool → MbModes → MbNeighbors → List ℤ → ReconstructedMb

@@ -11,12 +11,14 @@ use macroblock::MbModes;
 use macroblock::MbNeighbors;
 use macroblock::reply;
 
-// The planes of a macroblock, row by row; all of them 0 beside a reply that is not 0.
+// The planes of a macroblock, row by row, and how many sums were below 0 or above 255 before they were held within them; all
+// of it 0 beside a reply that is not 0.
 pub struct ReconstructedMb {
     pub reply: u32,
     pub y: [u8; 256],
     pub u: [u8; 64],
     pub v: [u8; 64],
+    pub clipped: u32,
 }
 
 // A refusal: its number, and zero pixels.
@@ -30,6 +32,7 @@ pub fn refused(reply: u32) -> ReconstructedMb
         y,
         u: c,
         v: c,
+        clipped: 0,
     }
 }
 
@@ -57,13 +60,17 @@ fn whole(
     ensures { λ r. ⌜ r ≡ wholeOf y uv skip neighbors (now (coeffs .entry)) ⌝ }
 {
     let luma = planes::y_whole(y, skip, neighbors, coeffs);
-    let u = planes::u_plane(uv, skip, neighbors, coeffs, 272);
-    let v = planes::v_plane(uv, skip, neighbors, coeffs, 336);
+    let chroma_u = planes::u_plane(uv, skip, neighbors, coeffs, 272);
+    let chroma_v = planes::v_plane(uv, skip, neighbors, coeffs, 336);
+    let y_pixels = luma.pixels;
+    let u_pixels = chroma_u.pixels;
+    let v_pixels = chroma_v.pixels;
     ReconstructedMb {
         reply: reply::DONE,
-        y: luma,
-        u,
-        v,
+        y: y_pixels,
+        u: u_pixels,
+        v: v_pixels,
+        clipped: luma.clipped + chroma_u.clipped + chroma_v.clipped,
     }
 }
 
@@ -99,14 +106,18 @@ fn parts(
 ) -> ReconstructedMb
     ensures { λ r. ⌜ r ≡ partsOf «sub_modes» uv skip neighbors (now (coeffs .entry)) ⌝ }
 {
-    let y = sub_blocks::luma_parts(sub_modes, skip, neighbors, coeffs);
-    let u = planes::u_plane(uv, skip, neighbors, coeffs, 256);
-    let v = planes::v_plane(uv, skip, neighbors, coeffs, 320);
+    let luma = sub_blocks::luma_parts(sub_modes, skip, neighbors, coeffs);
+    let chroma_u = planes::u_plane(uv, skip, neighbors, coeffs, 256);
+    let chroma_v = planes::v_plane(uv, skip, neighbors, coeffs, 320);
+    let y_pixels = luma.pixels;
+    let u_pixels = chroma_u.pixels;
+    let v_pixels = chroma_v.pixels;
     ReconstructedMb {
         reply: reply::DONE,
-        y,
-        u,
-        v,
+        y: y_pixels,
+        u: u_pixels,
+        v: v_pixels,
+        clipped: luma.clipped + chroma_u.clipped + chroma_v.clipped,
     }
 }
 

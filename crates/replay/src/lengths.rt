@@ -51,7 +51,7 @@ fn in_shorts(function: usize, read: &[i16], out: &mut [i16]) -> u32 {
 }
 
 // A function that writes bytes: the slices at the lengths 1 to 4 of a record, the shorts that are read, the bytes that
-// are written.
+// are written. The slice for the count has its one place.
 fn in_bytes(
     function: usize,
     a: &[u8],
@@ -61,13 +61,14 @@ fn in_bytes(
     read: &[i16],
     out: &mut [u8],
 ) -> u32 {
+    let mut clipped = [0u64; 1];
     match function {
-        6 => transform_slices::inverse_dct_add_into(read, out, 4, 0, 0),
+        6 => transform_slices::inverse_dct_add_into(read, out, 4, 0, 0, &mut clipped),
         7 => transform_slices::add_residue(a, read, out),
         8 => predict_slices::predict_y16x16(0, a, b, 0, out),
         9 => predict_slices::predict_uv8x8(0, a, b, 0, out),
         10 => predict_slices::predict_b4x4(0, a, b, 0, out),
-        11 => macroblock_slices::macroblock(a, b, c, read, out),
+        11 => macroblock_slices::macroblock(a, b, c, read, out, &mut clipped),
         12 => gather_bytes::gather_bytes(a, b, c, 1, 1, 0, 0, d, out),
         13 => right_pixels::right_pixels_into(a, 1, 2, 1, out),
         _ => NO_REPLY,

@@ -8,15 +8,17 @@ use crate::numbers::put_sixteen;
 use crate::numbers::short;
 use crate::numbers::shorts;
 
-// The macroblock that the record's modes and edges make with the coefficients.
+// The macroblock that the record's modes and edges make with the coefficients. No record has the count of clipped sums.
 fn draw(record: &[u8], coeffs: &[i16], out: &mut [u8]) -> u32 {
     let sub_modes = 4 + count(record, 3);
+    let mut clipped = [0u64; 1];
     macroblock_slices::macroblock(
         part(record, 0, 3),
         part(record, 4, sub_modes),
         part(record, 20, 101),
         coeffs,
         out,
+        &mut clipped,
     )
 }
 

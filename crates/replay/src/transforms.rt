@@ -49,7 +49,7 @@ pub fn inverse(record: &[u8], is_wht: bool) -> bool {
     agree_in_shorts(part(record, 32, 65), reply, &out)
 }
 
-// A record of a plane of n bytes, of which it says how many are lent.
+// A record of a plane of n bytes, of which it says how many are lent. It has no count of clipped sums.
 pub(crate) fn add_into(record: &[u8], n: usize) -> bool
     requires { ⌜ n ≤ 256 ⌝ }
 {
@@ -58,12 +58,14 @@ pub(crate) fn add_into(record: &[u8], n: usize) -> bool
     let mut plane = [0u8; 256];
     let after = 58 + n;
     slices::copy(first_to_write(&mut plane, n), part(record, 58, after));
+    let mut clipped = [0u64; 1];
     let reply = transform_slices::inverse_dct_add_into(
         &input,
         first_to_write(&mut plane, length(record, 56)),
         size(record, 32),
         size(record, 40),
         size(record, 48),
+        &mut clipped,
     );
     agree(
         part(record, after, after + 1 + n),

@@ -44,6 +44,7 @@ fn draw(still: &[u8], n: usize, y: &mut [u8], u: &mut [u8], v: &mut [u8]) -> u64
     let coefficients = 24 + 19 * n;
     let mut coeffs = [0i16; 8800];
     shorts(still, coefficients, &mut coeffs);
+    let mut clipped = [0u64; 1];
     still_numbers::still_alone(
         size(still, 16),
         size(still, 20),
@@ -53,6 +54,7 @@ fn draw(still: &[u8], n: usize, y: &mut [u8], u: &mut [u8], v: &mut [u8]) -> u64
         first_to_write(y, 256 * n),
         first_to_write(u, 64 * n),
         first_to_write(v, 64 * n),
+        &mut clipped,
     )
 }
 

@@ -2,10 +2,11 @@
 ghost use mathlib.Core.Path.{_≡_};
 ghost use lib.ListN.{length};
 ghost use Rattle.rfc6386.specs.Residue.{sum, summed};
-ghost use Rattle.residue.specs.Answer.{sameLengths, residueReply, residueAdded};
+ghost use Rattle.residue.specs.Answer.{summedBlock, sameLengths, residueReply, residueAdded};
 
 mod plane;
 
+pub use plane::AddedInto;
 pub use plane::inverse_dct_4x4_add_into;
 pub use whole::clamp255;
 
@@ -16,8 +17,7 @@ pub fn sum(p: u8, r: i16) -> u8
     clamp255((p as i32) + whole::widen(r))
 }
 
-// The sixteen pixels of a 4x4 block.
-pub fn add_residue_4x4(prediction: [u8; 16], residue: [i16; 16]) -> [u8; 16]
+fn block_pixels(prediction: [u8; 16], residue: [i16; 16]) -> [u8; 16]
     ensures { λ r. ⌜ r ≡ summed 16 prediction residue ⌝ }
 {
     let mut out = [0u8; 16];
@@ -25,6 +25,23 @@ pub fn add_residue_4x4(prediction: [u8; 16], residue: [i16; 16]) -> [u8; 16]
         out[i] = sum(prediction[i], residue[i]);
     }
     out
+}
+
+// A 4x4 block, and how many of its sixteen sums were below 0 or above 255.
+pub struct Summed {
+    pub pixels: [u8; 16],
+    pub clipped: u32,
+}
+
+// The sixteen pixels of a 4x4 block.
+pub fn add_residue_4x4(prediction: [u8; 16], residue: [i16; 16]) -> Summed
+    ensures { λ r. ⌜ r ≡ summedBlock prediction residue ⌝ }
+{
+    let clipped = clipping::block_clipped(prediction, residue);
+    Summed {
+        pixels: block_pixels(prediction, residue),
+        clipped,
+    }
 }
 
 fn same_lengths(prediction: usize, residue: usize, out: usize) -> bool

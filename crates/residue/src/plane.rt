@@ -9,7 +9,8 @@ ghost use Prim.Native.Nat.{_+_, _*_, _≤_};
 ghost use lib.ListN.{length};
 ghost use Rattle.rfc6386.specs.Dct.{idctDc};
 ghost use Rattle.rfc6386.specs.Residue.{lies, addedAt};
-ghost use Rattle.residue.specs.Answer.{acFree, addReply, addedInto};
+ghost use Rattle.clipping.specs.Clipped.{clippedAt};
+ghost use Rattle.residue.specs.Answer.{acFree, addedReply, addedInto};
 use crate::sum;
 
 // Whether the block lies in a plane of n bytes. No step wraps: where the rule multiplies, the code divides.
@@ -68,6 +69,36 @@ fn add_rows(part: &mut [u8], stride: usize, residue: [i16; 16])
     }
 }
 
+// How many of the sums that the row writer will make are below 0 or above 255.
+fn clipped_rows(part: &[u8], stride: usize, residue: [i16; 16]) -> u32
+    requires { ⌜ 3 * stride + 4 ≤ length (now part) ⌝ }
+    ensures { λ r. ⌜ r ≡ clippedAt 0 stride residue (now (part .entry)) ⌝ }
+{
+    let mut n = 0u32;
+    for i in 0..16 {
+        let j = i / 4 * stride + i % 4;
+        n = n + clipping::over(part[j], residue[i]);
+    }
+    n
+}
+
+// The row writer, with its count, which is taken first: the sums replace the pixels that they are made of.
+fn add_counted(part: &mut [u8], stride: usize, residue: [i16; 16]) -> u32
+    requires { ⌜ 3 * stride + 4 ≤ length (now part) ⌝ }
+    ensures { λ r. ⌜ (r ≡ clippedAt 0 stride residue (now (part .entry)))
+        × (now (part .exit) ≡ addedAt 0 stride residue (now (part .entry))) ⌝ }
+{
+    let n = clipped_rows(part, stride, residue);
+    add_rows(part, stride, residue);
+    n
+}
+
+// A reply, and how many of the block's sixteen sums were below 0 or above 255: 0 where the block is refused.
+pub struct AddedInto {
+    pub reply: u32,
+    pub clipped: u32,
+}
+
 // The block of sub-block row sub_row and column sub_col, with its residue added. Without AC coefficients the residue is one
 // number and needs no transform. Reply 2, and the plane untouched, unless the block lies in the plane.
 pub fn inverse_dct_4x4_add_into(
@@ -76,18 +107,27 @@ pub fn inverse_dct_4x4_add_into(
     stride: usize,
     sub_row: usize,
     sub_col: usize,
-) -> u32
-    ensures { λ r. ⌜ (r ≡ addReply (length (now (plane .entry))) stride «sub_row» «sub_col»)
+) -> AddedInto
+    ensures { λ r. ⌜ (r ≡ addedReply input stride «sub_row» «sub_col» (now (plane .entry)))
         × (now (plane .exit) ≡ addedInto input stride «sub_row» «sub_col» (now (plane .entry))) ⌝ }
 {
     if block_lies(plane.len(), stride, sub_row, sub_col) {
         let at = 4 * sub_row * stride + 4 * sub_col;
         if ac_free(input) {
-            add_rows(&mut plane[at..], stride, dc_only(input[0]));
-        } else {
-            add_rows(&mut plane[at..], stride, dct::inverse_dct_4x4(input));
+            let clipped = add_counted(&mut plane[at..], stride, dc_only(input[0]));
+            return AddedInto {
+                reply: macroblock::reply::DONE,
+                clipped,
+            };
         }
-        return macroblock::reply::DONE;
+        let clipped = add_counted(&mut plane[at..], stride, dct::inverse_dct_4x4(input));
+        return AddedInto {
+            reply: macroblock::reply::DONE,
+            clipped,
+        };
     }
-    macroblock::reply::OUTSIDE_PLANE
+    AddedInto {
+        reply: macroblock::reply::OUTSIDE_PLANE,
+        clipped: 0,
+    }
 }

@@ -8,8 +8,8 @@ use lib.ListN.{length, getD, take, drop, length-drop}
 use lib.Seq.{length-take-le}
 use Rattle.slices.specs.Copies.{orZeros}
 use Rattle.slices.proofs.Copied.{or-zeros-fit}
-use Rattle.canvas.specs.Drawn.{drawnInto}
-use Rattle.still.specs.Picture.{drawnAt}
+use Rattle.canvas.specs.Drawn.{drawnInto, clippedInto}
+use Rattle.still.specs.Picture.{drawnAt, countAt}
 
 -- n elements from `at` on, by the length of the part
 module _ {A : Type 0} where
@@ -29,4 +29,14 @@ pub at-place : (w h : ℕ) (modes subs : List ℕ) (coeffs : List ℤ) (right : 
     → z ≡ drawnAt w h modes subs coeffs (λ r y. right) k y u v
 unfolding drawnAt
 at-place w h modes subs coeffs right k y u v s z f e d =
+    rw (← part-whole 0 16 (16 * k) subs f, ← e, ← part-is 400 (400 * k) coeffs) d
+
+pub at-count : (w h : ℕ) (modes subs : List ℕ) (coeffs : List ℤ) (right : List ℕ) (k : ℕ) (y u v s : List ℕ) (n : ℕ) → 16 * k + 16 ≤ length subs
+    → s ≡ orZeros 0 16 (take (16 * k + 16 - 16 * k) (drop (16 * k) subs))
+    → n
+    ≡ clippedInto w h (k % w) (k / w) (getD modes (3 * k) 0) (getD modes (3 * k + 1) 0) (getD modes (3 * k + 2) 0) s right
+    (take (400 * k + 400 - 400 * k) (drop (400 * k) coeffs)) y u v
+    → n ≡ countAt w h modes subs coeffs (λ r y. right) k y u v
+unfolding countAt
+at-count w h modes subs coeffs right k y u v s n f e d =
     rw (← part-whole 0 16 (16 * k) subs f, ← e, ← part-is 400 (400 * k) coeffs) d

@@ -10,7 +10,7 @@ use Rattle.lists.specs.Lists.{pick, both}
 use Rattle.macroblock.specs.Reply.{wrongLength, outsidePicture}
 use Rattle.rfc6386.specs.Picture.{placeOk, sizesOk}
 use Rattle.still.specs.declared.StillReply.{StillReply}
-use Rattle.still.specs.Picture.{Canvas, canvas, picture, rightGiven, rightRead}
+use Rattle.still.specs.Picture.{Canvas, canvas, picture, pictureClipped, rightGiven, rightRead}
 
 -- a reply and the planes that it leaves
 abbrev pub told : StillReply → List ℕ → List ℕ → List ℕ → Canvas
@@ -18,7 +18,7 @@ told r y u v = canvas (r .reply) (r .index) y u v
 
 -- a refusal before anything is drawn
 abbrev pub refusal : ℕ → StillReply
-refusal number = record { reply = number; index = 0 }
+refusal number = record { reply = number; index = 0; clipped = 0 }
 
 -- each side 1 to 1,024
 unfoldable pub sizeOk : ℕ → ℕ → Bool
@@ -44,3 +44,20 @@ aloneAnswer w h modes subs coeffs y u v =
     (picture w h modes subs coeffs (rightRead w h) y u v)
     (canvas wrongLength 0 y u v))
     (canvas outsidePicture 0 y u v)
+
+-- ---- and how many sums were below 0 or above 255, of the finished macroblocks
+unfoldable pub stillClipped : ℕ → ℕ → List ℕ → List ℕ → List ℤ → List ℕ → List ℕ → List ℕ → List ℕ → ℕ
+stillClipped w h modes subs coeffs right y u v =
+    pick (sizeOk w h)
+    (pick (both (lengthsOk w h (length modes) (length subs) (length coeffs) (length y) (length u) (length v)) (eqb (length right) (4 * (h - 1))))
+    (pictureClipped w h modes subs coeffs (rightGiven right) y u v)
+    0)
+    0
+
+unfoldable pub aloneClipped : ℕ → ℕ → List ℕ → List ℕ → List ℤ → List ℕ → List ℕ → List ℕ → ℕ
+aloneClipped w h modes subs coeffs y u v =
+    pick (sizeOk w h)
+    (pick (lengthsOk w h (length modes) (length subs) (length coeffs) (length y) (length u) (length v))
+    (pictureClipped w h modes subs coeffs (rightRead w h) y u v)
+    0)
+    0

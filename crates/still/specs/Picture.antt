@@ -7,7 +7,8 @@ use lib.IntN.{ℤ}
 use lib.ListN.{getD, take, drop, replicate}
 use Rattle.lists.specs.Lists.{turns, pick}
 use Rattle.macroblock.specs.Reply.{done}
-use Rattle.canvas.specs.Drawn.{drawnInto}
+use Rattle.clipping.specs.Clipped.{total}
+use Rattle.canvas.specs.Drawn.{drawnInto, clippedInto}
 use Rattle.right_pixels.specs.Answers.{rightPixels}
 
 -- the planes, beside a reply and the raster index of the refused macroblock, 0 where none is
@@ -43,6 +44,21 @@ module _ (w h : ℕ) (modes subs : List ℕ) (coeffs : List ℤ) (right : ℕ �
   -- the picture
   unfoldable pub picture : List ℕ → List ℕ → List ℕ → Canvas
   picture y u v = first (w * h) y u v
+
+  -- ---- how many sums were below 0 or above 255: of macroblock k, the planes as they stand; 0 once the drawing has ended; of the first n; of the picture
+  unfoldable pub countAt : ℕ → List ℕ → List ℕ → List ℕ → ℕ
+  countAt k y u v =
+      clippedInto w h (k % w) (k / w) (getD modes (3 * k) 0) (getD modes (3 * k + 1) 0) (getD modes (3 * k + 2) 0)
+      (take 16 (drop (16 * k) subs)) (right (k / w) y) (take 400 (drop (400 * k) coeffs)) y u v
+
+  unfoldable pub countIn : ℕ → Canvas → ℕ
+  countIn k d = pick (eqb (d .reply) done) (countAt k (d .y) (d .u) (d .v)) 0
+
+  unfoldable pub firstClipped : ℕ → List ℕ → List ℕ → List ℕ → ℕ
+  firstClipped n y u v = total n λ k. countIn k (first k y u v)
+
+  unfoldable pub pictureClipped : List ℕ → List ℕ → List ℕ → ℕ
+  pictureClipped y u v = firstClipped (w * h) y u v
 
 -- ---- where the right-hand pixels come from
 -- given: four for each macroblock row after the first

@@ -4,15 +4,18 @@ ghost use Prim.Native.Nat.{_+_, _*_, _<_, _≤_};
 ghost use mathlib.Core.Bool.{true};
 ghost use lib.ListN.{length};
 ghost use Rattle.slices.specs.Copies.{_beside_};
-ghost use Rattle.still.specs.Picture.{drawnAt, picture, rightAt, rightGiven, rightRead};
+ghost use Rattle.still.specs.Picture.{drawnAt, picture, countAt, pictureClipped, rightAt, rightGiven, rightRead};
 ghost use Rattle.still.specs.Fits.{Fits};
-ghost use Rattle.still.specs.Answers.{sizeOk, lengthsOk, told, refusal, stillAnswer, aloneAnswer};
+ghost use Rattle.still.specs.Answers.{sizeOk, lengthsOk, told, refusal, stillAnswer, aloneAnswer, stillClipped, aloneClipped};
+use canvas::DrawnMb;
 use macroblock::reply;
 
-// The reply, and in reply 8 the raster index of the refused macroblock; else 0.
+// The reply, in reply 8 the raster index of the refused macroblock, else 0, and how many sums of the finished macroblocks were
+// below 0 or above 255.
 pub struct StillReply {
     pub reply: u32,
     pub index: usize,
+    pub clipped: u64,
 }
 
 // The four pixels above right of the last column of macroblock row `row`, as given; zeros for the first row.
@@ -39,10 +42,12 @@ fn draw_at(
     y: &mut [u8],
     u: &mut [u8],
     v: &mut [u8],
-) -> u32
+) -> DrawnMb
     requires { ⌜ (0 < cols) × (3 * k + 3 ≤ length (now modes)) × (16 * k + 16 ≤ length (now «sub_modes»)) × (400 * k + 400 ≤ length (now coeffs)) ⌝ }
-    ensures { λ r. ⌜ (r beside now (y .exit) beside now (u .exit) beside now (v .exit))
-        ≡ drawnAt cols rows (now (modes .entry)) (now («sub_modes» .entry)) (now (coeffs .entry)) (λ r y. right) k (now (y .entry)) (now (u .entry)) (now (v .entry)) ⌝ }
+    ensures { λ r. ⌜ ((r .reply beside now (y .exit) beside now (u .exit) beside now (v .exit))
+        ≡ drawnAt cols rows (now (modes .entry)) (now («sub_modes» .entry)) (now (coeffs .entry)) (λ r y. right) k (now (y .entry)) (now (u .entry)) (now (v .entry)))
+        × (r .clipped
+        ≡ countAt cols rows (now (modes .entry)) (now («sub_modes» .entry)) (now (coeffs .entry)) (λ r y. right) k (now (y .entry)) (now (u .entry)) (now (v .entry))) ⌝ }
 {
     let luma = modes[3 * k];
     let chroma = modes[3 * k + 1];
@@ -79,21 +84,31 @@ fn draw_given(
     v: &mut [u8],
 ) -> StillReply
     requires { ⌜ Fits cols rows (length (now modes)) (length (now «sub_modes»)) (length (now coeffs)) × (4 * rows ≡ length (now right) + 4) ⌝ }
-    ensures { λ r. ⌜ told r (now (y .exit)) (now (u .exit)) (now (v .exit))
+    ensures { λ r. ⌜ (told r (now (y .exit)) (now (u .exit)) (now (v .exit))
         ≡ picture cols rows (now (modes .entry)) (now («sub_modes» .entry)) (now (coeffs .entry)) (rightGiven (now (right .entry)))
-        (now (y .entry)) (now (u .entry)) (now (v .entry)) ⌝ }
+        (now (y .entry)) (now (u .entry)) (now (v .entry)))
+        × (r .clipped
+        ≡ pictureClipped cols rows (now (modes .entry)) (now («sub_modes» .entry)) (now (coeffs .entry)) (rightGiven (now (right .entry)))
+        (now (y .entry)) (now (u .entry)) (now (v .entry))) ⌝ }
 {
     let n = cols * rows;
+    let mut clipped = 0u64;
     for k in 0..n {
         let pixels = right_of(right, k / cols);
-        let reply = draw_at(k, cols, rows, modes, sub_modes, coeffs, pixels, y, u, v);
-        if reply != reply::DONE {
-            return StillReply { reply, index: k };
+        let drawn = draw_at(k, cols, rows, modes, sub_modes, coeffs, pixels, y, u, v);
+        clipped = clipped + drawn.clipped as u64;
+        if drawn.reply != reply::DONE {
+            return StillReply {
+                reply: drawn.reply,
+                index: k,
+                clipped,
+            };
         }
     }
     StillReply {
         reply: reply::DONE,
         index: 0,
+        clipped,
     }
 }
 
@@ -109,22 +124,32 @@ fn draw_alone(
     v: &mut [u8],
 ) -> StillReply
     requires { ⌜ Fits cols rows (length (now modes)) (length (now «sub_modes»)) (length (now coeffs)) ⌝ }
-    ensures { λ r. ⌜ told r (now (y .exit)) (now (u .exit)) (now (v .exit))
+    ensures { λ r. ⌜ (told r (now (y .exit)) (now (u .exit)) (now (v .exit))
         ≡ picture cols rows (now (modes .entry)) (now («sub_modes» .entry)) (now (coeffs .entry)) (rightRead cols rows)
-        (now (y .entry)) (now (u .entry)) (now (v .entry)) ⌝ }
+        (now (y .entry)) (now (u .entry)) (now (v .entry)))
+        × (r .clipped
+        ≡ pictureClipped cols rows (now (modes .entry)) (now («sub_modes» .entry)) (now (coeffs .entry)) (rightRead cols rows)
+        (now (y .entry)) (now (u .entry)) (now (v .entry))) ⌝ }
 {
     let n = cols * rows;
+    let mut clipped = 0u64;
     for k in 0..n {
         let read = right_pixels::right_pixels(y, cols, rows, k / cols);
         let pixels = read.pixels;
-        let reply = draw_at(k, cols, rows, modes, sub_modes, coeffs, pixels, y, u, v);
-        if reply != reply::DONE {
-            return StillReply { reply, index: k };
+        let drawn = draw_at(k, cols, rows, modes, sub_modes, coeffs, pixels, y, u, v);
+        clipped = clipped + drawn.clipped as u64;
+        if drawn.reply != reply::DONE {
+            return StillReply {
+                reply: drawn.reply,
+                index: k,
+                clipped,
+            };
         }
     }
     StillReply {
         reply: reply::DONE,
         index: 0,
+        clipped,
     }
 }
 
@@ -132,7 +157,11 @@ fn draw_alone(
 fn refused(reply: u32) -> StillReply
     ensures { λ r. ⌜ r ≡ refusal reply ⌝ }
 {
-    StillReply { reply, index: 0 }
+    StillReply {
+        reply,
+        index: 0,
+        clipped: 0,
+    }
 }
 
 fn size_ok(cols: usize, rows: usize) -> bool
@@ -182,9 +211,12 @@ pub fn still(
     u: &mut [u8],
     v: &mut [u8],
 ) -> StillReply
-    ensures { λ r. ⌜ told r (now (y .exit)) (now (u .exit)) (now (v .exit))
+    ensures { λ r. ⌜ (told r (now (y .exit)) (now (u .exit)) (now (v .exit))
         ≡ stillAnswer cols rows (now (modes .entry)) (now («sub_modes» .entry)) (now (coeffs .entry)) (now (right .entry))
-        (now (y .entry)) (now (u .entry)) (now (v .entry)) ⌝ }
+        (now (y .entry)) (now (u .entry)) (now (v .entry)))
+        × (r .clipped
+        ≡ stillClipped cols rows (now (modes .entry)) (now («sub_modes» .entry)) (now (coeffs .entry)) (now (right .entry))
+        (now (y .entry)) (now (u .entry)) (now (v .entry))) ⌝ }
 {
     if !size_ok(cols, rows) {
         return refused(reply::OUTSIDE_PICTURE);
@@ -219,9 +251,12 @@ pub fn still_alone(
     u: &mut [u8],
     v: &mut [u8],
 ) -> StillReply
-    ensures { λ r. ⌜ told r (now (y .exit)) (now (u .exit)) (now (v .exit))
+    ensures { λ r. ⌜ (told r (now (y .exit)) (now (u .exit)) (now (v .exit))
         ≡ aloneAnswer cols rows (now (modes .entry)) (now («sub_modes» .entry)) (now (coeffs .entry))
-        (now (y .entry)) (now (u .entry)) (now (v .entry)) ⌝ }
+        (now (y .entry)) (now (u .entry)) (now (v .entry)))
+        × (r .clipped
+        ≡ aloneClipped cols rows (now (modes .entry)) (now («sub_modes» .entry)) (now (coeffs .entry))
+        (now (y .entry)) (now (u .entry)) (now (v .entry))) ⌝ }
 {
     if !size_ok(cols, rows) {
         return refused(reply::OUTSIDE_PICTURE);

@@ -13,6 +13,7 @@
 --     Demand3       demand 3 of each pixel of each finished macroblock
 --     Known         the reply of a macroblock: 0 where its bytes are known, else 8
 --     Replies       0 where all bytes are known, else 8 and the first macroblock whose bytes are not
+--     Counts        at most 384 sums of a macroblock are counted, and no count of a still passes 64 bits
 pub mod Settled
 pub mod Digits
 pub mod Block
@@ -27,3 +28,4 @@ pub mod Walked
 pub mod Demand3
 pub mod Known
 pub mod Replies
+pub mod Counts

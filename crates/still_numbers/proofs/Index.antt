@@ -2,15 +2,14 @@
 use Prim.Native.Nat.{ℕ, zero, suc, _+_, _-_, _*_, _≤_}
 use mathlib.Core.Bool.{Bool, true, false}
 use mathlib.Core.Path.{_≡_, refl, sym, ap, _∙_}
-use mathlib.Core.List.{List}
+use mathlib.Core.List.{List, [], _∷_}
 use native.Mathlib.Nat.{le-trans, le-refl}
 use native.Mathlib.Omega.{arith}
 use lib.Dec.{eqb}
 use lib.IntN.{ℤ}
-use lib.ListN.{length}
+use lib.ListN.{length, set}
 use Rattle.lists.specs.Lists.{turns, pick, both}
 use Rattle.slices.specs.Copies.{_beside_}
-use Rattle.slices.proofs.Pairs.{pair}
 use Rattle.still.specs.declared.StillReply.{StillReply}
 use Rattle.still.specs.Picture.{Canvas, canvas, drawnAt, turn, first, picture, rightGiven, rightRead}
 use Rattle.still.specs.Answers.{told, sizeOk, lengthsOk, stillAnswer, aloneAnswer}
@@ -63,10 +62,17 @@ module _ (w h : ℕ) (modes subs : List ℕ) (coeffs : List ℤ) where
       (λ e. le-trans (picture-index w h modes subs coeffs (rightRead w h) y u v) (few e))
 
 -- what is told, as a number
-pub counted : (r : StillReply) (y u v : List ℕ) (d : Canvas) (k : ℕ) → told r y u v ≡ d → k ≡ r .index * 256 + r .reply
-    → (k beside y beside u beside v) ≡ numbered d
+pub counted : (r : StillReply) (y u v l : List ℕ) (d : Canvas) (k n : ℕ) → told r y u v ≡ d → k ≡ r .index * 256 + r .reply → l ≡ r .clipped ∷ [] → r .clipped ≡ n
+    → (k beside y beside u beside v beside l) ≡ numbered d n
 unfolding numbered
-counted r y u v d k e n = pair n refl ∙ ap (λ (d : Canvas). (d .index * 256 + d .reply) beside d .y beside d .u beside d .v) e
+counted r y u v l d k n e i f g =
+    rw (i, f, g) (ap (λ (d : Canvas). (d .index * 256 + d .reply) beside d .y beside d .u beside d .v beside n ∷ []) e)
 
 pub index-of : (r : StillReply) (y u v : List ℕ) (d : Canvas) → told r y u v ≡ d → d .index ≤ 1048576 → r .index ≤ 1048576
 index-of r y u v d e h = rw (ap (λ (d : Canvas). d .index) e) h
+
+-- a count stored into a slice of one
+pub one-set : (l : List ℕ) (n : ℕ) → length l ≡ 1 → set l 0 n ≡ n ∷ []
+one-set [] n e = absurd (omega (arith, e))
+one-set (a ∷ []) n e = refl
+one-set (a ∷ b ∷ l) n e = absurd (omega (arith, e))

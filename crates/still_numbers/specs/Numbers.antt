@@ -1,16 +1,26 @@
--- The answer of a still as one number, the raster index times 256 plus the reply, beside the three planes.
+-- The answer of a still as one number, the raster index times 256 plus the reply, beside the three planes and the count of sums that were below 0 or above
+-- 255. A count's slice of another length than 1 is a slice of another length: 7 comes before it, and nothing is drawn.
 use Prim.Native.Nat.{ℕ, _+_, _*_}
-use mathlib.Core.List.{List}
+use mathlib.Core.List.{List, [], _∷_}
 use lib.IntN.{ℤ}
-use Rattle.slices.specs.Copies.{_beside_}
+use Rattle.lists.specs.Lists.{pick}
+use Rattle.slices.specs.Copies.{sized, _beside_}
+use Rattle.macroblock.specs.Reply.{wrongLength, outsidePicture}
 use Rattle.still.specs.Picture.{Canvas}
-use Rattle.still.specs.Answers.{stillAnswer, aloneAnswer}
+use Rattle.still.specs.Answers.{sizeOk, stillAnswer, aloneAnswer, stillClipped, aloneClipped}
 
-unfoldable pub numbered : Canvas → ℕ × (List ℕ × (List ℕ × List ℕ))
-numbered d = (d .index * 256 + d .reply) beside d .y beside d .u beside d .v
+unfoldable pub numbered : Canvas → ℕ → ℕ × (List ℕ × (List ℕ × (List ℕ × List ℕ)))
+numbered d n = (d .index * 256 + d .reply) beside d .y beside d .u beside d .v beside n ∷ []
 
-unfoldable pub stillNumber : ℕ → ℕ → List ℕ → List ℕ → List ℤ → List ℕ → List ℕ → List ℕ → List ℕ → ℕ × (List ℕ × (List ℕ × List ℕ))
-stillNumber w h modes subs coeffs right y u v = numbered (stillAnswer w h modes subs coeffs right y u v)
+unfoldable pub early : ℕ → ℕ → ℕ
+early w h = pick (sizeOk w h) wrongLength outsidePicture
 
-unfoldable pub aloneNumber : ℕ → ℕ → List ℕ → List ℕ → List ℤ → List ℕ → List ℕ → List ℕ → ℕ × (List ℕ × (List ℕ × List ℕ))
-aloneNumber w h modes subs coeffs y u v = numbered (aloneAnswer w h modes subs coeffs y u v)
+unfoldable pub stillNumber : ℕ → ℕ → List ℕ → List ℕ → List ℤ → List ℕ → List ℕ → List ℕ → List ℕ → List ℕ → ℕ × (List ℕ × (List ℕ × (List ℕ × List ℕ)))
+stillNumber w h modes subs coeffs right y u v clipped =
+    pick (sized 1 clipped) (numbered (stillAnswer w h modes subs coeffs right y u v) (stillClipped w h modes subs coeffs right y u v))
+    (early w h beside y beside u beside v beside clipped)
+
+unfoldable pub aloneNumber : ℕ → ℕ → List ℕ → List ℕ → List ℤ → List ℕ → List ℕ → List ℕ → List ℕ → ℕ × (List ℕ × (List ℕ × (List ℕ × List ℕ)))
+aloneNumber w h modes subs coeffs y u v clipped =
+    pick (sized 1 clipped) (numbered (aloneAnswer w h modes subs coeffs y u v) (aloneClipped w h modes subs coeffs y u v))
+    (early w h beside y beside u beside v beside clipped)

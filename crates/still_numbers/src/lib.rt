@@ -1,8 +1,10 @@
 // The still calls with their answer as one number: the raster index times 256, plus the reply.
 ghost use mathlib.Core.Path.{_≡_};
 ghost use Prim.Native.Nat.{_+_, _*_, _≤_};
+ghost use mathlib.Core.List.{_∷_, []};
+ghost use lib.ListN.{length};
 ghost use Rattle.slices.specs.Copies.{_beside_};
-ghost use Rattle.still_numbers.specs.Numbers.{stillNumber, aloneNumber};
+ghost use Rattle.still_numbers.specs.Numbers.{early, stillNumber, aloneNumber};
 use still::StillReply;
 
 fn number(told: StillReply) -> u64
@@ -12,7 +14,25 @@ fn number(told: StillReply) -> u64
     told.index as u64 * 256 + told.reply as u64
 }
 
-// `still::still`.
+// The refusal of a call whose count has no place.
+fn early(cols: usize, rows: usize) -> u64
+    ensures { λ r. ⌜ r ≡ early cols rows ⌝ }
+{
+    if picture_limits::place_ok(cols, rows, 0, 0) {
+        1
+    } else {
+        7
+    }
+}
+
+fn put_count(to: &mut [u64], n: u64)
+    requires { ⌜ length (now to) ≡ 1 ⌝ }
+    ensures { λ _. ⌜ now (to .exit) ≡ n ∷ [] ⌝ }
+{
+    to[0] = n;
+}
+
+// `still::still`; `clipped` has one place, for the count of the finished macroblocks' sums that were below 0 or above 255.
 pub fn still(
     cols: usize,
     rows: usize,
@@ -23,12 +43,17 @@ pub fn still(
     y: &mut [u8],
     u: &mut [u8],
     v: &mut [u8],
+    clipped: &mut [u64],
 ) -> u64
-    ensures { λ r. ⌜ (r beside now (y .exit) beside now (u .exit) beside now (v .exit))
+    ensures { λ r. ⌜ (r beside now (y .exit) beside now (u .exit) beside now (v .exit) beside now (clipped .exit))
         ≡ stillNumber cols rows (now (modes .entry)) (now («sub_modes» .entry)) (now (coeffs .entry)) (now (right .entry))
-        (now (y .entry)) (now (u .entry)) (now (v .entry)) ⌝ }
+        (now (y .entry)) (now (u .entry)) (now (v .entry)) (now (clipped .entry)) ⌝ }
 {
+    if clipped.len() != 1 {
+        return early(cols, rows);
+    }
     let told = still::still(cols, rows, modes, sub_modes, coeffs, right, y, u, v);
+    put_count(clipped, told.clipped);
     number(told)
 }
 
@@ -42,11 +67,16 @@ pub fn still_alone(
     y: &mut [u8],
     u: &mut [u8],
     v: &mut [u8],
+    clipped: &mut [u64],
 ) -> u64
-    ensures { λ r. ⌜ (r beside now (y .exit) beside now (u .exit) beside now (v .exit))
+    ensures { λ r. ⌜ (r beside now (y .exit) beside now (u .exit) beside now (v .exit) beside now (clipped .exit))
         ≡ aloneNumber cols rows (now (modes .entry)) (now («sub_modes» .entry)) (now (coeffs .entry))
-        (now (y .entry)) (now (u .entry)) (now (v .entry)) ⌝ }
+        (now (y .entry)) (now (u .entry)) (now (v .entry)) (now (clipped .entry)) ⌝ }
 {
+    if clipped.len() != 1 {
+        return early(cols, rows);
+    }
     let told = still::still_alone(cols, rows, modes, sub_modes, coeffs, y, u, v);
+    put_count(clipped, told.clipped);
     number(told)
 }

@@ -8,4 +8,5 @@ pub mod Inside
 pub mod Windows
 pub mod FourRows
 pub mod Walked
+pub mod Counts
 pub mod OneAnswer

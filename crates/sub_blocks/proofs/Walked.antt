@@ -21,14 +21,14 @@ use Rattle.sub_blocks.specs.Steps.{summedWith, predictionAt, codedBlock,
 
 module _ (modes : List IntraBmode) (coeffs : List ℤ) where
   -- the residues of block j of block row i are those of block 4 i + j
-  residue-of : (i j n : ℕ) → i < 4 → j < 4 → n < 16
+  pub residue-of : (i j n : ℕ) → i < 4 → j < 4 → n < 16
       → getD (residuesFrom coeffs (64 * i)) (16 * (n / 4) + 4 * j + n % 4) (pos 0) ≡ residue (blockAt coeffs 0 (i * 4 + j)) (n / 4) (n % 4)
   residue-of i j n hi hj hn =
       residues-at coeffs (64 * i) (n / 4) j (n % 4) (omega arith) hj (omega arith)
       ∙ residue-ext (blockAt coeffs (64 * i) j) (blockAt coeffs 0 (i * 4 + j))
       (λ k l. let e : 64 * i + 16 * j + k ≡ 0 + 16 * (i * 4 + j) + k = omega arith in rw e) (n / 4) (n % 4)
 
-  coded-is : (i j : ℕ) (b : List ℕ) → i < 4 → j < 4 → codedAt modes (residuesFrom coeffs (64 * i)) i j b ≡ subBlock modes false coeffs (i * 4 + j) b
+  pub coded-is : (i j : ℕ) (b : List ℕ) → i < 4 → j < 4 → codedAt modes (residuesFrom coeffs (64 * i)) i j b ≡ subBlock modes false coeffs (i * 4 + j) b
   unfolding codedBlock predictionAt subBlock subPixels subPrediction summedWith
   coded-is i j b hi hj =
       let k : 4 * i + j ≡ i * 4 + j = omega arith in

@@ -7,6 +7,7 @@ use Rattle.lists.specs.Lists.{table, turns, store}
 use Rattle.macroblock.specs.declared.modes.IntraBmode.{IntraBmode}
 use Rattle.macroblock.specs.declared.modes.IntraBmode.the-variants.{Dc}
 use Rattle.rfc6386.specs.Residue.{sum}
+use Rattle.clipping.specs.Clipped.{total, over}
 use Rattle.rfc6386.specs.Subblock.{predictB}
 use Rattle.rfc6386.specs.Walk.{cornerOf, aboveIn, leftIn, topLeftIn, putBlock}
 
@@ -38,3 +39,14 @@ skippedBlock mode k b = putBlock (cornerOf k) (predictionAt mode k b) b
 
 abbrev pub skippedAt : List IntraBmode → ℕ → List ℕ → List ℕ
 skippedAt modes k = skippedBlock (getD modes k Dc) k
+
+-- how many of the sixteen sums of block j of the four are outside
+unfoldable pub clippedWith : List ℤ → ℕ → List ℕ → ℕ
+clippedWith o j px = total 16 λ i. over (getD px i 0) (getD o (16 * (i / 4) + 4 * j + i % 4) (pos 0))
+
+abbrev pub clippedIn : List IntraBmode → List ℤ → ℕ → ℕ → List ℕ → ℕ
+clippedIn modes o i j b = clippedWith o j (predictionAt (getD modes (4 * i + j) Dc) (4 * i + j) b)
+
+-- the same of block row i
+unfoldable pub rowClipped : List IntraBmode → List ℤ → ℕ → List ℕ → ℕ
+rowClipped modes o i b = total 4 λ j. clippedIn modes o i j (turns j (codedAt modes o i) b)

@@ -7,4 +7,5 @@ mod put;
 mod walk;
 mod window;
 
+pub use walk::LumaParts;
 pub use walk::luma_parts;

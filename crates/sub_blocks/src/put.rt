@@ -4,7 +4,7 @@ ghost use mathlib.Core.Path.{_≡_};
 ghost use Prim.Native.Nat.{_<_, _≤_};
 ghost use Rattle.lists.specs.Lists.{turns};
 ghost use Rattle.rfc6386.specs.Walk.{putBlock};
-ghost use Rattle.sub_blocks.specs.Steps.{putRow, sumRow, summedWith};
+ghost use Rattle.sub_blocks.specs.Steps.{putRow, sumRow, summedWith, clippedWith};
 use macroblock::MbNeighbors;
 use work_buffer::LENGTH;
 
@@ -44,4 +44,16 @@ pub(crate) fn sum_block(b: &mut [u8; LENGTH], at: usize, px: &[u8; 16], o: &[i16
     for r in 0..4 {
         sum_row(b, at, px, o, j, r);
     }
+}
+
+// How many of those sums are outside 0 and 255.
+pub(crate) fn clipped(px: &[u8; 16], o: &[i16; 64], j: usize) -> u32
+    requires { ⌜ j < 4 ⌝ }
+    ensures { λ n. ⌜ n ≡ clippedWith (now (o .entry)) j (now (px .entry)) ⌝ }
+{
+    let mut n = 0u32;
+    for i in 0..16 {
+        n = n + clipping::over(px[i], o[16 * (i / 4) + 4 * j + i % 4]);
+    }
+    n
 }

@@ -1,11 +1,14 @@
 // The sixteen sub-blocks in raster order. The residues of a block row are made first, four blocks side by side.
 ghost use mathlib.Core.Path.{_≡_};
-ghost use Prim.Native.Nat.{_*_, _<_};
+ghost use Prim.Native.Nat.{_+_, _*_, _<_};
 ghost use mathlib.Core.Bool.{true, false};
 ghost use Rattle.lists.specs.Lists.{turns};
-ghost use Rattle.rfc6386.specs.Walk.{walked, yParts};
+ghost use Rattle.rfc6386.specs.Walk.{walked};
+ghost use Rattle.clipping.specs.Clipped.{walkedClipped};
 ghost use Rattle.blocks.specs.Taken.{residuesFrom};
-ghost use Rattle.sub_blocks.specs.Steps.{codedBlock, codedAt, skippedBlock, skippedAt};
+ghost use Rattle.sub_blocks.specs.Steps.{predictionAt, codedBlock, codedAt, clippedWith, rowClipped, skippedBlock, skippedAt};
+ghost use Rattle.sub_blocks.specs.Drawn.{partsDrawn};
+use crate::put::clipped;
 use crate::put::put_block;
 use crate::put::sum_block;
 use crate::window::corner_of;
@@ -14,25 +17,36 @@ use macroblock::IntraBmode;
 use macroblock::MbNeighbors;
 use work_buffer::LENGTH;
 
-// Sub-block j of block row i, its residue added.
-fn coded_block(b: &mut [u8; LENGTH], mode: IntraBmode, o: &[i16; 64], i: usize, j: usize)
+// The luma of a macroblock in mode B, and how many sums were below 0 or above 255.
+pub struct LumaParts {
+    pub pixels: [u8; 256],
+    pub clipped: u32,
+}
+
+// Sub-block j of block row i, its residue added. It answers how many sums were outside 0 and 255.
+fn coded_block(b: &mut [u8; LENGTH], mode: IntraBmode, o: &[i16; 64], i: usize, j: usize) -> u32
     requires { ⌜ (i < 4) × (j < 4) ⌝ }
-    ensures { λ _. ⌜ now (b .exit) ≡ codedBlock mode (now (o .entry)) i j (now (b .entry)) ⌝ }
+    ensures { λ n. ⌜ (now (b .exit) ≡ codedBlock mode (now (o .entry)) i j (now (b .entry)))
+        × (n ≡ clippedWith (now (o .entry)) j (predictionAt mode (4 * i + j) (now (b .entry)))) ⌝ }
 {
     let at = corner_of(4 * i + j);
     let mut px = [0u8; 16];
     predict(&mut px, b, at, mode);
     sum_block(b, at, &px, o, j);
+    clipped(&px, o, j)
 }
 
-fn coded_row(b: &mut [u8; LENGTH], modes: [IntraBmode; 16], o: &[i16; 64], i: usize)
+fn coded_row(b: &mut [u8; LENGTH], modes: [IntraBmode; 16], o: &[i16; 64], i: usize) -> u32
     requires { ⌜ i < 4 ⌝ }
-    ensures { λ _. ⌜ now (b .exit) ≡ turns 4 (codedAt modes (now (o .entry)) i) (now (b .entry)) ⌝ }
+    ensures { λ n. ⌜ (now (b .exit) ≡ turns 4 (codedAt modes (now (o .entry)) i) (now (b .entry)))
+        × (n ≡ rowClipped modes (now (o .entry)) i (now (b .entry))) ⌝ }
 {
+    let mut n = 0u32;
     for j in 0..4 {
         let mode = modes[4 * i + j];
-        coded_block(b, mode, o, i, j);
+        n = n + coded_block(b, mode, o, i, j);
     }
+    n
 }
 
 // The residues of block row i.
@@ -43,13 +57,16 @@ fn residues_of(coeffs: &[i16], i: usize) -> [i16; 64]
     blocks::residues(coeffs, 64 * i)
 }
 
-fn walk_coded(b: &mut [u8; LENGTH], modes: [IntraBmode; 16], coeffs: &[i16])
-    ensures { λ _. ⌜ now (b .exit) ≡ walked 16 modes false (now (coeffs .entry)) (now (b .entry)) ⌝ }
+fn walk_coded(b: &mut [u8; LENGTH], modes: [IntraBmode; 16], coeffs: &[i16]) -> u32
+    ensures { λ n. ⌜ (now (b .exit) ≡ walked 16 modes false (now (coeffs .entry)) (now (b .entry)))
+        × (n ≡ walkedClipped 16 modes false (now (coeffs .entry)) (now (b .entry))) ⌝ }
 {
+    let mut n = 0u32;
     for i in 0..4 {
         let o = residues_of(coeffs, i);
-        coded_row(b, modes, &o, i);
+        n = n + coded_row(b, modes, &o, i);
     }
+    n
 }
 
 // Sub-block k, its prediction alone.
@@ -72,14 +89,15 @@ fn walk_skipped(b: &mut [u8; LENGTH], modes: [IntraBmode; 16])
     }
 }
 
-fn walk(b: &mut [u8; LENGTH], modes: [IntraBmode; 16], skip: bool, coeffs: &[i16])
-    ensures { λ _. ⌜ now (b .exit) ≡ walked 16 modes skip (now (coeffs .entry)) (now (b .entry)) ⌝ }
+fn walk(b: &mut [u8; LENGTH], modes: [IntraBmode; 16], skip: bool, coeffs: &[i16]) -> u32
+    ensures { λ n. ⌜ (now (b .exit) ≡ walked 16 modes skip (now (coeffs .entry)) (now (b .entry)))
+        × (n ≡ walkedClipped 16 modes skip (now (coeffs .entry)) (now (b .entry))) ⌝ }
 {
     if skip {
         walk_skipped(b, modes);
-    } else {
-        walk_coded(b, modes, coeffs);
+        return 0;
     }
+    walk_coded(b, modes, coeffs)
 }
 
 // The luma of a macroblock in mode B, from its neighbours, its sub-block modes and its coefficients.
@@ -88,10 +106,11 @@ pub fn luma_parts(
     skip: bool,
     neighbors: MbNeighbors,
     coeffs: &[i16],
-) -> [u8; 256]
-    ensures { λ r. ⌜ r ≡ yParts modes skip neighbors (now (coeffs .entry)) ⌝ }
+) -> LumaParts
+    ensures { λ r. ⌜ r ≡ partsDrawn modes skip neighbors (now (coeffs .entry)) ⌝ }
 {
     let mut b = work_buffer::start(neighbors);
-    walk(&mut b, modes, skip, coeffs);
-    work_buffer::luma_of(&b)
+    let n = walk(&mut b, modes, skip, coeffs);
+    let pixels = work_buffer::luma_of(&b);
+    LumaParts { pixels, clipped: n }
 }

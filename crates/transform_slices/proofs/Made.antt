@@ -7,7 +7,8 @@ use lib.IntN.{ℤ}
 use lib.ListN.{length, set}
 use Rattle.slices.specs.Copies.{_beside_}
 use Rattle.rfc6386.specs.Quantiser.{dequantised}
-use Rattle.residue.specs.Answer.{addedInto}
+use Rattle.residue.specs.declared.plane.AddedInto.{AddedInto}
+use Rattle.residue.specs.Answer.{addReply, addedInto, addClipped, addedReply}
 use Rattle.quantiser.specs.declared.Y1DequantFactors.{Y1DequantFactors}
 use Rattle.quantiser.specs.Factors.{y1Factors}
 
@@ -15,9 +16,17 @@ pub dequant-made : {out l block : List ℤ} {x y dc ac : ℤ}
     → out ≡ dequantised l x y → l ≡ block → x ≡ dc → y ≡ ac → out ≡ dequantised block dc ac
 dequant-made e p q r = rw (← p, ← q, ← r) e
 
-pub add-made : {out : List ℕ} {l block : List ℤ} (stride row col : ℕ) (plane : List ℕ)
-    → out ≡ addedInto l stride row col plane → l ≡ block → out ≡ addedInto block stride row col plane
-add-made stride row col plane e p = rw (← p) e
+pub add-made : {told : AddedInto} {out : List ℕ} {l block : List ℤ} (stride row col : ℕ) (plane : List ℕ) {counts : List ℕ}
+    → told ≡ addedReply l stride row col plane → out ≡ addedInto l stride row col plane → counts ≡ told .clipped ∷ [] → l ≡ block
+    → (told .reply beside out beside counts)
+    ≡ (addReply (length plane) stride row col beside addedInto block stride row col plane beside addClipped block stride row col plane ∷ [])
+unfolding addedReply
+add-made stride row col plane e m n p = rw (n, m, e, p)
+
+pub one-set : (l : List ℕ) (n : ℕ) → length l ≡ 1 → set l 0 n ≡ n ∷ []
+one-set [] n e = absurd (omega (arith, e))
+one-set (a ∷ []) n e = refl
+one-set (a ∷ b ∷ l) n e = absurd (omega (arith, e))
 
 two-set : (out : List ℤ) (x y : ℤ) → length out ≡ 2 → set (set out 0 x) 1 y ≡ x ∷ y ∷ []
 two-set [] x y e = absurd (omega (arith, e))

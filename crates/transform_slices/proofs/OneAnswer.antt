@@ -1,5 +1,6 @@
 -- Each promise of `transform_slices` admits one answer only, and leaves one thing only in what was lent. Assumes nothing.
 use Rattle.lists.proofs.Answer.{OneAnswerIn}
+use Rattle.slices.specs.Copies.{_beside_}
 use Rattle.slices.proofs.Pairs.{same-pair}
 use Rattle.transform_slices.proofs.y1_factors.Reads as y1-factors
 use Rattle.transform_slices.proofs.y1_factors.Kinds as y1-factors-k
@@ -31,7 +32,8 @@ inverse-wht-dc-only-one κs a x y s t = same-pair
 pub inverse-dct-one : OneAnswerIn 2 inverse-dct-k.ps inverse-dct-k.r inverse-dct.Post (λ κs s. s .1 .0 .now)
 inverse-dct-one κs a x y s t = same-pair
 
-pub inverse-dct-add-into-one : OneAnswerIn 2 inverse-dct-add-into-k.ps inverse-dct-add-into-k.r inverse-dct-add-into.Post (λ κs s. s .1 .0 .now)
+pub inverse-dct-add-into-one : OneAnswerIn 3 inverse-dct-add-into-k.ps inverse-dct-add-into-k.r inverse-dct-add-into.Post
+    (λ κs s. s .1 .0 .now beside s .1 .1 .1 .1 .1 .0 .now)
 inverse-dct-add-into-one κs a x y s t = same-pair
 
 pub add-residue-one : OneAnswerIn 3 add-residue-k.ps add-residue-k.r add-residue.Post (λ κs s. s .1 .1 .0 .now)

@@ -12,7 +12,7 @@ use Rattle.rfc6386.specs.Quantiser.{dequantised}
 use Rattle.rfc6386.specs.Wht.{iwht, iwhtDc}
 use Rattle.rfc6386.specs.Dct.{idct}
 use Rattle.quantiser.specs.Factors.{y1Factors}
-use Rattle.residue.specs.Answer.{addReply, addedInto, residueReply, residueAdded}
+use Rattle.residue.specs.Answer.{addReply, addedInto, addClipped, residueReply, residueAdded}
 
 -- the factors of an index and its delta: dc, ac
 unfoldable pub factorsAnswer : ℤ → ℤ → List ℤ → ℕ × List ℤ
@@ -36,10 +36,12 @@ whtDcAnswer dc out = pick (sized 16 out) (done beside iwhtDc dc) (wrongLength be
 unfoldable pub dctAnswer : List ℤ → List ℤ → ℕ × List ℤ
 dctAnswer input out = pick (sixteens input out) (done beside idct input) (wrongLength beside out)
 
--- a block's inverse DCT added to its place in a plane
-unfoldable pub addIntoAnswer : List ℤ → List ℕ → ℕ → ℕ → ℕ → ℕ × List ℕ
-addIntoAnswer input plane stride row col =
-    pick (sized 16 input) (addReply (length plane) stride row col beside addedInto input stride row col plane) (wrongLength beside plane)
+-- a block's inverse DCT added to its place in a plane, and the count of its clipped sums in a slice of 1
+unfoldable pub addIntoAnswer : List ℤ → List ℕ → ℕ → ℕ → ℕ → List ℕ → ℕ × (List ℕ × List ℕ)
+addIntoAnswer input plane stride row col clipped =
+    pick (both (sized 16 input) (sized 1 clipped))
+    (addReply (length plane) stride row col beside addedInto input stride row col plane beside addClipped input stride row col plane ∷ [])
+    (wrongLength beside plane beside clipped)
 
 -- prediction plus residue
 unfoldable pub residueAnswer : List ℕ → List ℤ → List ℕ → ℕ × List ℕ

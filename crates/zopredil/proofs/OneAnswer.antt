@@ -53,7 +53,8 @@ inverse-wht-dc-only-one κs a x y s t = same-pair
 pub inverse-dct-one : OneAnswerIn 2 inverse-dct-k.ps inverse-dct-k.r inverse-dct.Post (λ κs s. s .1 .0 .now)
 inverse-dct-one κs a x y s t = same-pair
 
-pub inverse-dct-add-into-one : OneAnswerIn 2 inverse-dct-add-into-k.ps inverse-dct-add-into-k.r inverse-dct-add-into.Post (λ κs s. s .1 .0 .now)
+pub inverse-dct-add-into-one : OneAnswerIn 3 inverse-dct-add-into-k.ps inverse-dct-add-into-k.r inverse-dct-add-into.Post {A = List ℕ × List ℕ}
+    (λ κs s. (s .1 .0 .now, s .1 .1 .1 .1 .1 .0 .now))
 inverse-dct-add-into-one κs a x y s t = same-pair
 
 pub add-residue-one : OneAnswerIn 3 add-residue-k.ps add-residue-k.r add-residue.Post (λ κs s. s .1 .1 .0 .now)
@@ -68,7 +69,8 @@ predict-uv8x8-one κs a x y s t = same-pair
 pub predict-b4x4-one : OneAnswerIn 3 predict-b4x4-k.ps predict-b4x4-k.r predict-b4x4.Post (λ κs s. s .1 .1 .1 .1 .0 .now)
 predict-b4x4-one κs a x y s t = same-pair
 
-pub macroblock-one : OneAnswerIn 5 macroblock-k.ps macroblock-k.r macroblock.Post (λ κs s. s .1 .1 .1 .1 .0 .now)
+pub macroblock-one : OneAnswerIn 6 macroblock-k.ps macroblock-k.r macroblock.Post {A = List ℕ × List ℕ}
+    (λ κs s. (s .1 .1 .1 .1 .0 .now, s .1 .1 .1 .1 .1 .0 .now))
 macroblock-one κs a x y s t = same-pair
 
 pub gather-one : OneAnswerIn 5 gather-k.ps gather-k.r gather.Post (λ κs s. s .1 .1 .1 .1 .1 .1 .1 .1 .0 .now)
@@ -83,10 +85,14 @@ dequantise-one κs a x y s t p q =
     let e = same p q in
     (ap (λ (w : ℕ × List ℤ × List ℤ). w .0) e, ap (λ (w : ℕ × List ℤ × List ℤ). (w .1, w .2)) e)
 
-pub still-one : OneAnswerIn 7 still-k.ps still-k.r still.Post {A = List ℕ × (List ℕ × List ℕ)}
-    (λ κs s. (s .1 .1 .1 .1 .1 .1 .0 .now, (s .1 .1 .1 .1 .1 .1 .1 .0 .now, s .1 .1 .1 .1 .1 .1 .1 .1 .0 .now)))
+pub still-one : OneAnswerIn 8 still-k.ps still-k.r still.Post {A = List ℕ × (List ℕ × (List ℕ × List ℕ))}
+    (λ κs s. (
+      s .1 .1 .1 .1 .1 .1 .0 .now,
+      (s .1 .1 .1 .1 .1 .1 .1 .0 .now, (s .1 .1 .1 .1 .1 .1 .1 .1 .0 .now, s .1 .1 .1 .1 .1 .1 .1 .1 .1 .0 .now)),
+    ))
 still-one κs a x y s t = same-pair
 
-pub still-alone-one : OneAnswerIn 6 still-alone-k.ps still-alone-k.r still-alone.Post {A = List ℕ × (List ℕ × List ℕ)}
-    (λ κs s. (s .1 .1 .1 .1 .1 .0 .now, (s .1 .1 .1 .1 .1 .1 .0 .now, s .1 .1 .1 .1 .1 .1 .1 .0 .now)))
+pub still-alone-one : OneAnswerIn 7 still-alone-k.ps still-alone-k.r still-alone.Post {A = List ℕ × (List ℕ × (List ℕ × List ℕ))}
+    (λ κs s.
+    (s .1 .1 .1 .1 .1 .0 .now, (s .1 .1 .1 .1 .1 .1 .0 .now, (s .1 .1 .1 .1 .1 .1 .1 .0 .now, s .1 .1 .1 .1 .1 .1 .1 .1 .0 .now))))
 still-alone-one κs a x y s t = same-pair

@@ -69,10 +69,12 @@ pub extern "C" fn zopredil_inverse_dct_add_into(
     stride: usize,
     sub_row: usize,
     sub_col: usize,
+    clipped: &mut [u64],
 ) -> u32
-    ensures { λ r. ⌜ (r beside now (plane .exit)) ≡ addIntoAnswer (now (input .entry)) (now (plane .entry)) stride «sub_row» «sub_col» ⌝ }
+    ensures { λ r. ⌜ (r beside now (plane .exit) beside now (clipped .exit))
+        ≡ addIntoAnswer (now (input .entry)) (now (plane .entry)) stride «sub_row» «sub_col» (now (clipped .entry)) ⌝ }
 {
-    transform_slices::inverse_dct_add_into(input, plane, stride, sub_row, sub_col)
+    transform_slices::inverse_dct_add_into(input, plane, stride, sub_row, sub_col, clipped)
 }
 
 #[no_mangle]
@@ -128,11 +130,12 @@ pub extern "C" fn zopredil_macroblock(
     edges: &[u8],
     coeffs: &[i16],
     out: &mut [u8],
+    clipped: &mut [u64],
 ) -> u32
-    ensures { λ r. ⌜ (r beside now (out .exit))
-        ≡ mbAnswer (now (modes .entry)) (now («sub_modes» .entry)) (now (edges .entry)) (now (coeffs .entry)) (now (out .entry)) ⌝ }
+    ensures { λ r. ⌜ (r beside now (out .exit) beside now (clipped .exit))
+        ≡ mbAnswer (now (modes .entry)) (now («sub_modes» .entry)) (now (edges .entry)) (now (coeffs .entry)) (now (out .entry)) (now (clipped .entry)) ⌝ }
 {
-    macroblock_slices::macroblock(modes, sub_modes, edges, coeffs, out)
+    macroblock_slices::macroblock(modes, sub_modes, edges, coeffs, out, clipped)
 }
 
 #[no_mangle]
@@ -177,12 +180,24 @@ pub extern "C" fn zopredil_still(
     y: &mut [u8],
     u: &mut [u8],
     v: &mut [u8],
+    clipped: &mut [u64],
 ) -> u64
-    ensures { λ r. ⌜ (r beside now (y .exit) beside now (u .exit) beside now (v .exit))
+    ensures { λ r. ⌜ (r beside now (y .exit) beside now (u .exit) beside now (v .exit) beside now (clipped .exit))
         ≡ stillNumber cols rows (now (modes .entry)) (now («sub_modes» .entry)) (now (coeffs .entry)) (now (right .entry))
-        (now (y .entry)) (now (u .entry)) (now (v .entry)) ⌝ }
+        (now (y .entry)) (now (u .entry)) (now (v .entry)) (now (clipped .entry)) ⌝ }
 {
-    still_numbers::still(cols, rows, modes, sub_modes, coeffs, right, y, u, v)
+    still_numbers::still(
+        cols,
+        rows,
+        modes,
+        sub_modes,
+        coeffs,
+        right,
+        y,
+        u,
+        v,
+        clipped,
+    )
 }
 
 #[no_mangle]
@@ -195,10 +210,11 @@ pub extern "C" fn zopredil_still_alone(
     y: &mut [u8],
     u: &mut [u8],
     v: &mut [u8],
+    clipped: &mut [u64],
 ) -> u64
-    ensures { λ r. ⌜ (r beside now (y .exit) beside now (u .exit) beside now (v .exit))
+    ensures { λ r. ⌜ (r beside now (y .exit) beside now (u .exit) beside now (v .exit) beside now (clipped .exit))
         ≡ aloneNumber cols rows (now (modes .entry)) (now («sub_modes» .entry)) (now (coeffs .entry))
-        (now (y .entry)) (now (u .entry)) (now (v .entry)) ⌝ }
+        (now (y .entry)) (now (u .entry)) (now (v .entry)) (now (clipped .entry)) ⌝ }
 {
-    still_numbers::still_alone(cols, rows, modes, sub_modes, coeffs, y, u, v)
+    still_numbers::still_alone(cols, rows, modes, sub_modes, coeffs, y, u, v, clipped)
 }

@@ -2,7 +2,7 @@
 //! another wrong length or a wrong byte.
 
 use crate::library;
-use crate::tally::{Pair, Run, Tally};
+use crate::tally::{Counts, Pair, Run, Tally};
 use crate::transforms::Dequantised;
 use judge::expected;
 use judge::random::Random;
@@ -33,7 +33,7 @@ pub fn wrong_lengths(run: &mut Run) {
 fn blocks(numbers: &[i16; 512], bytes: &[u8; 512], run: &mut Run) {
     let mut tally = Tally::new("blocks.lengths");
     let mut pair = Pair::new(512, 0x5AA5);
-    let mut pixels = Pair::new(512, 0x5A);
+    let (mut pixels, mut counts) = (Pair::new(512, 0x5A), Counts::new(512));
     for n in around(16) {
         for (q, d) in [(0, 0), (i32::MAX, 1)] {
             let equal = pair.filled(n, |out| library::y1_factors(q, d, out), |out| expected::y1_factors(q, d, out));
@@ -52,12 +52,15 @@ fn blocks(numbers: &[i16; 512], bytes: &[u8; 512], run: &mut Run) {
             tally.count(equal, || format!("inverse_wht {m} {n}"));
             let equal = pair.filled(n, |out| library::inverse_dct(input, out), |out| expected::inverse_dct(input, out));
             tally.count(equal, || format!("inverse_dct {m} {n}"));
-            let equal = pixels.holding(
-                &bytes[..m],
-                |plane| library::inverse_dct_add_into(start, plane, 4, 0, 0),
-                |plane| expected::inverse_dct_add_into(start, plane, 4, 0, 0),
-            );
-            tally.count(equal, || format!("inverse_dct_add_into {n} {m}"));
+            for clipped in around(1) {
+                let (by_library, by_rust) = counts.lend(clipped);
+                let added = pixels.holding(
+                    &bytes[..m],
+                    |plane| library::inverse_dct_add_into(start, plane, 4, 0, 0, by_library),
+                    |plane| expected::inverse_dct_add_into(start, plane, 4, 0, 0, by_rust),
+                );
+                tally.count(added && counts.equal(), || format!("inverse_dct_add_into {n} {m} {clipped}"));
+            }
         }
     }
     tally.end(run);
@@ -107,27 +110,28 @@ fn predictions(bytes: &[u8; 512], run: &mut Run) {
 
 fn macroblocks(numbers: &[i16; 512], bytes: &[u8; 512], run: &mut Run) {
     let mut tally = Tally::new("macroblock.lengths");
-    let mut pair = Pair::new(512, 0x5A);
-    let right = [3, 16, 81, 400, 384];
+    let (mut pair, mut counts) = (Pair::new(512, 0x5A), Counts::new(512));
+    let right = [3, 16, 81, 400, 384, 1];
     let zeros = [0; 512];
-    let mut case = |lengths: [usize; 5]| {
-        let [m, s, r, c, o] = lengths;
+    let mut case = |lengths: [usize; 6]| {
+        let [m, s, r, c, o, n] = lengths;
         let in_b = [4, 1, 0, 2, 3, 1, 0, 0];
         // no byte wrong, luma mode B, and every byte without any rule
         for (modes, sub_modes, record) in [(&zeros[..], &zeros, &zeros), (&in_b, &zeros, &zeros), (bytes, bytes, bytes)]
         {
             let modes = &modes[..m.min(modes.len())];
             let (sub_modes, record, coeffs) = (&sub_modes[..s], &record[..r], &numbers[..c]);
-            let equal = pair.filled(
+            let (by_library, by_rust) = counts.lend(n);
+            let drawn = pair.filled(
                 o,
-                |out| library::macroblock(modes, sub_modes, record, coeffs, out),
-                |out| expected::macroblock(modes, sub_modes, record, coeffs, out),
+                |out| library::macroblock(modes, sub_modes, record, coeffs, out, by_library),
+                |out| expected::macroblock(modes, sub_modes, record, coeffs, out, by_rust),
             );
-            tally.count(equal, || format!("lengths {lengths:?} modes {modes:?}"));
+            tally.count(drawn && counts.equal(), || format!("lengths {lengths:?} modes {modes:?}"));
         }
     };
-    for first in 0..5 {
-        for second in 0..5 {
+    for first in 0..6 {
+        for second in 0..6 {
             for x in around(right[first]) {
                 for y in around(right[second]) {
                     let mut lengths = right;

@@ -49,9 +49,17 @@ pub fn inverse_dct(input: &[i16], out: &mut [i16]) -> u32 {
     unsafe { raw::zopredil_inverse_dct(start(input), input.len(), start_mut(out), out.len()) }
 }
 
-pub fn inverse_dct_add_into(input: &[i16], plane: &mut [u8], stride: usize, sub_row: usize, sub_col: usize) -> u32 {
-    let (at, len) = (start_mut(plane), plane.len());
-    unsafe { raw::zopredil_inverse_dct_add_into(start(input), input.len(), at, len, stride, sub_row, sub_col) }
+pub fn inverse_dct_add_into(
+    input: &[i16],
+    plane: &mut [u8],
+    stride: usize,
+    sub_row: usize,
+    sub_col: usize,
+    clipped: &mut [u64],
+) -> u32 {
+    let (block, at, len) = (start(input), start_mut(plane), plane.len());
+    let (n, n_len) = (start_mut(clipped), clipped.len());
+    unsafe { raw::zopredil_inverse_dct_add_into(block, input.len(), at, len, stride, sub_row, sub_col, n, n_len) }
 }
 
 pub fn add_residue(prediction: &[u8], residue: &[i16], out: &mut [u8]) -> u32 {
@@ -74,7 +82,14 @@ pub fn predict_b4x4(mode: u8, above: &[u8], left: &[u8], p: u8, out: &mut [u8]) 
     unsafe { raw::zopredil_predict_b4x4(mode, a, above.len(), l, left.len(), p, start_mut(out), out.len()) }
 }
 
-pub fn macroblock(modes: &[u8], sub_modes: &[u8], record: &[u8], coeffs: &[i16], out: &mut [u8]) -> u32 {
+pub fn macroblock(
+    modes: &[u8],
+    sub_modes: &[u8],
+    record: &[u8],
+    coeffs: &[i16],
+    out: &mut [u8],
+    clipped: &mut [u64],
+) -> u32 {
     unsafe {
         raw::zopredil_macroblock(
             start(modes),
@@ -87,6 +102,8 @@ pub fn macroblock(modes: &[u8], sub_modes: &[u8], record: &[u8], coeffs: &[i16],
             coeffs.len(),
             start_mut(out),
             out.len(),
+            start_mut(clipped),
+            clipped.len(),
         )
     }
 }
@@ -128,20 +145,26 @@ pub fn right_pixels(y: &[u8], cols: usize, rows: usize, row: usize, out: &mut [u
 }
 
 /// `zopredil_still` or, where `right` is none, `zopredil_still_alone`.
-pub fn still(given: Still<'_>, right: Option<&[u8]>, planes: Planes<'_>) -> u64 {
+#[rustfmt::skip]
+pub fn still(given: Still<'_>, right: Option<&[u8]>, planes: Planes<'_>, clipped: &mut [u64]) -> u64 {
     let Still { cols, rows, modes, sub_modes, coeffs } = given;
     let (m, s, c) = (start(modes), start(sub_modes), start(coeffs));
     let (m_len, s_len, c_len) = (modes.len(), sub_modes.len(), coeffs.len());
     let Planes { y, u, v } = planes;
     let (y_len, u_len, v_len) = (y.len(), u.len(), v.len());
     let (y, u, v) = (start_mut(y), start_mut(u), start_mut(v));
+    let (n, n_len) = (start_mut(clipped), clipped.len());
     unsafe {
         match right {
             Some(right) => {
                 let (r, r_len) = (start(right), right.len());
-                raw::zopredil_still(cols, rows, m, m_len, s, s_len, c, c_len, r, r_len, y, y_len, u, u_len, v, v_len)
+                raw::zopredil_still(
+                    cols, rows, m, m_len, s, s_len, c, c_len, r, r_len, y, y_len, u, u_len, v, v_len, n, n_len,
+                )
             }
-            None => raw::zopredil_still_alone(cols, rows, m, m_len, s, s_len, c, c_len, y, y_len, u, u_len, v, v_len),
+            None => raw::zopredil_still_alone(
+                cols, rows, m, m_len, s, s_len, c, c_len, y, y_len, u, u_len, v, v_len, n, n_len,
+            ),
         }
     }
 }

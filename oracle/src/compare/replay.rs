@@ -1,5 +1,6 @@
 //! The committed sample, replayed through the C interface: each record's input is handed to the library, whose answer
-//! must be the record's expected bytes. Only the format is known here, and not what is right.
+//! must be the record's expected bytes. A record has no count of clipped sums. Only the format is known here, and not
+//! what is right.
 
 use crate::library;
 use crate::tally::{Run, Tally};
@@ -86,7 +87,7 @@ fn replay(kind: u8, input: &[u8], planes: &mut [Vec<u8>; 3]) -> Vec<u8> {
             let block = i.shorts(16);
             let (stride, sub_row, sub_col, length) = (i.size(), i.size(), i.size(), i.length());
             let mut plane = i.0.to_vec();
-            let reply = library::inverse_dct_add_into(&block, &mut plane[..length], stride, sub_row, sub_col);
+            let reply = library::inverse_dct_add_into(&block, &mut plane[..length], stride, sub_row, sub_col, &mut [0]);
             answer(reply, &plane)
         }
         7 => {
@@ -112,7 +113,7 @@ fn replay(kind: u8, input: &[u8], planes: &mut [Vec<u8>; 3]) -> Vec<u8> {
             let (modes, given) = (i.bytes(3), usize::from(i.byte()));
             let (sub_modes, record) = (i.bytes(16), i.bytes(81));
             let coeffs = if kind == 11 { i.shorts(400) } else { sparse(&mut i) };
-            answer(library::macroblock(modes, &sub_modes[..given], record, &coeffs, &mut out), &out)
+            answer(library::macroblock(modes, &sub_modes[..given], record, &coeffs, &mut out, &mut [0]), &out)
         }
         12 => {
             let mut record = [FILL; 81];
@@ -167,12 +168,12 @@ fn wrong_lengths(i: &mut Input) -> Vec<u8> {
         3 => library::inverse_wht(&zero_shorts[..a], &mut out_shorts[..b]),
         4 => library::inverse_wht_dc_only(0, &mut out_shorts[..a]),
         5 => library::inverse_dct(&zero_shorts[..a], &mut out_shorts[..b]),
-        6 => library::inverse_dct_add_into(&zero_shorts[..a], &mut out[..b], 4, 0, 0),
+        6 => library::inverse_dct_add_into(&zero_shorts[..a], &mut out[..b], 4, 0, 0, &mut [0]),
         7 => library::add_residue(&zeros[..a], &zero_shorts[..b], &mut out[..c]),
         8 => library::predict_y16x16(0, &zeros[..a], &zeros[..b], 0, &mut out[..c]),
         9 => library::predict_uv8x8(0, &zeros[..a], &zeros[..b], 0, &mut out[..c]),
         10 => library::predict_b4x4(0, &zeros[..a], &zeros[..b], 0, &mut out[..c]),
-        11 => library::macroblock(&zeros[..a], &zeros[..b], &zeros[..c], &zero_shorts[..d], &mut out[..e]),
+        11 => library::macroblock(&zeros[..a], &zeros[..b], &zeros[..c], &zero_shorts[..d], &mut out[..e], &mut [0]),
         12 => library::gather(&zeros[..a], &zeros[..b], &zeros[..c], 1, 1, 0, 0, &zeros[..d], &mut out[..e]),
         _ => library::right_pixels(&zeros[..a], 1, 2, 1, &mut out[..b]),
     };

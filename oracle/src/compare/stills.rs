@@ -1,8 +1,8 @@
-//! Whole stills, with the pixels right of the picture and without: what is drawn, and of a damaged one that the
-//! macroblocks before the wrong one are finished and every other byte is as it was.
+//! Whole stills, with the pixels right of the picture and without: what is drawn, how many sums were clipped, and of a
+//! damaged one that the macroblocks before the wrong one are finished and every other byte is as it was.
 
 use crate::library;
-use crate::tally::{Run, Tally};
+use crate::tally::{Counts, Run, Tally};
 use judge::data;
 use judge::random::Random;
 use judge::still::{still, Planes, Still};
@@ -102,18 +102,20 @@ impl Owned {
 }
 
 /// Both sides of a call on the same planes: the answer that is expected, and whether the library's and all bytes in and
-/// around the planes are equal to it.
-fn both(r: &mut Random, given: Still<'_>, right: Option<&[u8]>, lengths: [usize; 3]) -> (u64, bool) {
+/// around the planes and the count, which has `counts` numbers, are equal to it.
+fn both(r: &mut Random, given: Still<'_>, right: Option<&[u8]>, lengths: [usize; 3], counts: usize) -> (u64, bool) {
     let mut by_library = Cells::new(r, lengths);
     let mut expected = by_library.clone();
-    let answers = (library::still(given, right, by_library.lend()), still(given, right, expected.lend()));
-    (answers.1, answers.0 == answers.1 && by_library == expected)
+    let mut clipped = Counts::new(counts);
+    let (ours, theirs) = clipped.lend(counts);
+    let answers = (library::still(given, right, by_library.lend(), ours), still(given, right, expected.lend(), theirs));
+    (answers.1, answers.0 == answers.1 && by_library == expected && clipped.equal())
 }
 
 /// A still, with the pixels right of the picture and without. The tallies are of what is drawn and of what is refused.
 fn case(r: &mut Random, given: &Owned, drawn: &mut Tally, refused: &mut Tally) {
     for right in [Some(&given.right[..]), None] {
-        let (answer, equal) = both(r, given.lent(), right, given.lengths());
+        let (answer, equal) = both(r, given.lent(), right, given.lengths(), 1);
         let tally = if answer == 0 { &mut *drawn } else { &mut *refused };
         tally.count(equal, || {
             let which = if right.is_some() { "still" } else { "still_alone" };
@@ -184,8 +186,8 @@ fn refused(r: &mut Random, run: &mut Run) {
     let stock = Owned::new(r, 5, 5);
     let mut bytes = [0; 64];
     r.bytes(&mut bytes);
-    let mut case = |size: (usize, usize), lengths: [usize; 7]| {
-        let [modes, sub_modes, coeffs, right, y, u, v] = lengths;
+    let mut case = |size: (usize, usize), lengths: [usize; 8]| {
+        let [modes, sub_modes, coeffs, right, y, u, v, clipped] = lengths;
         let given = Still {
             cols: size.0,
             rows: size.1,
@@ -194,27 +196,27 @@ fn refused(r: &mut Random, run: &mut Run) {
             coeffs: &stock.coeffs[..coeffs],
         };
         for right in [Some(&bytes[..right]), None] {
-            let (answer, equal) = both(r, given, right, [y, u, v]);
+            let (answer, equal) = both(r, given, right, [y, u, v], clipped);
             tally.count(equal, || format!("size {size:?} lengths {lengths:?} answer {answer}"));
         }
     };
     let fit =
-        |count: usize, right: usize| [3 * count, 16 * count, 400 * count, right, 256 * count, 64 * count, 64 * count];
+        |n: usize, right: usize, clipped: usize| [3 * n, 16 * n, 400 * n, right, 256 * n, 64 * n, 64 * n, clipped];
     let sides = [0, 1, 2, 1023, 1024, 1025, 1 << 32, 1 << 56, 1 << 60, (1 << 63) + 1, usize::MAX - 1, usize::MAX];
     for cols in sides {
         for rows in sides {
             for count in [0, 1, 2, 4] {
-                for right in [0, 4] {
-                    case((cols, rows), fit(count, right));
+                for (right, clipped) in [(0, 1), (4, 1), (0, 0), (4, 2)] {
+                    case((cols, rows), fit(count, right, clipped));
                 }
             }
         }
     }
     for (cols, rows) in [(1, 1), (2, 1), (1, 2), (3, 4)] {
-        let right = fit(cols * rows, 4 * (rows - 1));
-        let each = [3, 16, 400, 4, 256, 64, 64];
-        for first in 0..7 {
-            for second in 0..7 {
+        let right = fit(cols * rows, 4 * (rows - 1), 1);
+        let each = [3, 16, 400, 4, 256, 64, 64, 1];
+        for first in 0..8 {
+            for second in 0..8 {
                 let around = |k: usize| {
                     [
                         0,

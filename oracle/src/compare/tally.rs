@@ -112,3 +112,36 @@ impl<T: Copy + PartialEq> Pair<T> {
         replies.0 == replies.1 && *lent == self.expected[..n] && kept(before) && kept(after)
     }
 }
+
+/// What a count holds before a call.
+const COUNT: u64 = 0xA5A5_A5A5_A5A5_A5A5;
+
+/// The count of clipped sums, which some functions write beside another slice: one slice for the library, between two
+/// borders, and one for what is expected of it.
+pub struct Counts {
+    library: Vec<u64>,
+    expected: Vec<u64>,
+    n: usize,
+}
+
+impl Counts {
+    /// Room for slices of at most `most`.
+    pub fn new(most: usize) -> Counts {
+        Counts { library: vec![COUNT; most + 2 * BORDER], expected: vec![COUNT; most + 2 * BORDER], n: 0 }
+    }
+
+    /// Two slices of `n` marks: the library's, then the expected one.
+    pub fn lend(&mut self, n: usize) -> (&mut [u64], &mut [u64]) {
+        self.n = n;
+        let [library, expected] = [&mut self.library, &mut self.expected].map(|counts| {
+            counts[..n + 2 * BORDER].fill(COUNT);
+            &mut counts[BORDER..BORDER + n]
+        });
+        (library, expected)
+    }
+
+    /// Does the same stand in both after the calls, and nothing new around them?
+    pub fn equal(&self) -> bool {
+        self.library[..self.n + 2 * BORDER] == self.expected[..self.n + 2 * BORDER]
+    }
+}

@@ -1,7 +1,7 @@
 //! Coefficients: factors, dequantising, the inverse transforms and the residue sum.
 
 use crate::library;
-use crate::tally::{Pair, Run, Tally};
+use crate::tally::{Counts, Pair, Run, Tally};
 use judge::data;
 use judge::expected;
 use judge::random::Random;
@@ -214,12 +214,15 @@ pub fn inverse_dct_add_into(run: &mut Run) -> u64 {
     let mut tally = Tally::new("inverse_dct_add_into");
     let mut refused = Tally::new("inverse_dct_add_into.refused");
     let mut pair = Pair::new(4096, 0x5A);
+    let mut counts = Counts::new(1);
     let mut case = |block: &[i16], plane: &[u8], stride: usize, row: usize, col: usize| {
-        let equal = pair.holding(
+        let (by_library, by_rust) = counts.lend(1);
+        let added = pair.holding(
             plane,
-            |p| library::inverse_dct_add_into(block, p, stride, row, col),
-            |p| expected::inverse_dct_add_into(block, p, stride, row, col),
+            |p| library::inverse_dct_add_into(block, p, stride, row, col, by_library),
+            |p| expected::inverse_dct_add_into(block, p, stride, row, col, by_rust),
         );
+        let equal = added && counts.equal();
         let accepted = expected::in_plane(plane.len(), stride, row, col) && block.len() == 16;
         let tally = if accepted { &mut tally } else { &mut refused };
         tally.count(equal, || format!("{block:?} length {} stride {stride} row {row} col {col}", plane.len()));

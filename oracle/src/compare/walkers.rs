@@ -1,18 +1,32 @@
 //! Whole macroblocks.
 
 use crate::library;
-use crate::tally::{Pair, Run, Tally};
+use crate::tally::{Counts, Pair, Run, Tally};
 use judge::data;
 use judge::expected;
 use judge::random::Random;
 
-/// Both sides on one macroblock.
-fn equal(pair: &mut Pair<u8>, modes: &[u8], sub_modes: &[u8], record: &[u8], coeffs: &[i16]) -> bool {
-    pair.filled(
-        384,
-        |out| library::macroblock(modes, sub_modes, record, coeffs, out),
-        |out| expected::macroblock(modes, sub_modes, record, coeffs, out),
-    )
+/// Both sides: the pixels, and the clipped sums.
+struct Both {
+    pair: Pair<u8>,
+    counts: Counts,
+}
+
+impl Both {
+    fn new() -> Both {
+        Both { pair: Pair::new(384, 0x5A), counts: Counts::new(1) }
+    }
+
+    /// On one macroblock.
+    fn equal(&mut self, modes: &[u8], sub_modes: &[u8], record: &[u8], coeffs: &[i16]) -> bool {
+        let (by_library, by_rust) = self.counts.lend(1);
+        let drawn = self.pair.filled(
+            384,
+            |out| library::macroblock(modes, sub_modes, record, coeffs, out, by_library),
+            |out| expected::macroblock(modes, sub_modes, record, coeffs, out, by_rust),
+        );
+        drawn && self.counts.equal()
+    }
 }
 
 fn describe(modes: &[u8], sub_modes: &[u8], record: &[u8], coeffs: &[i16]) -> String {
@@ -24,7 +38,7 @@ fn describe(modes: &[u8], sub_modes: &[u8], record: &[u8], coeffs: &[i16]) -> St
 pub fn non_b(run: &mut Run) -> u64 {
     let mut r = Random::new(run.seed);
     let mut tally = Tally::new("macroblock.non_b");
-    let mut pair = Pair::new(384, 0x5A);
+    let mut both = Both::new();
     let mut coeffs = [0; 400];
     let mut sub_modes = [0; 16];
     for k in 0..run.cases(700_000) {
@@ -33,7 +47,7 @@ pub fn non_b(run: &mut Run) -> u64 {
         data::coefficients(&mut r, &mut coeffs);
         r.bytes(&mut sub_modes);
         let given = &sub_modes[..16 * r.below(2)];
-        let equal = equal(&mut pair, &modes, given, &record, &coeffs);
+        let equal = both.equal(&modes, given, &record, &coeffs);
         tally.count(equal, || describe(&modes, given, &record, &coeffs));
     }
     tally.end(run)
@@ -43,14 +57,14 @@ pub fn non_b(run: &mut Run) -> u64 {
 pub fn b(run: &mut Run) -> u64 {
     let mut r = Random::new(run.seed);
     let mut tally = Tally::new("macroblock.b");
-    let mut pair = Pair::new(384, 0x5A);
+    let mut both = Both::new();
     let mut coeffs = [0; 400];
     for k in 0..run.cases(700_000) {
         let modes = [4, r.below(4) as u8, u8::from(r.once_in(8))];
         let record = data::record(&mut r, k % 1024);
         data::coefficients(&mut r, &mut coeffs);
         let sub_modes = data::sub_modes(&mut r);
-        let equal = equal(&mut pair, &modes, &sub_modes, &record, &coeffs);
+        let equal = both.equal(&modes, &sub_modes, &record, &coeffs);
         tally.count(equal, || describe(&modes, &sub_modes, &record, &coeffs));
     }
     tally.end(run)
@@ -61,11 +75,11 @@ pub fn b(run: &mut Run) -> u64 {
 pub fn refused(run: &mut Run) {
     let mut r = Random::new(run.seed);
     let mut tally = Tally::new("macroblock.refused");
-    let mut pair = Pair::new(384, 0x5A);
+    let mut both = Both::new();
     let mut coeffs = [0; 400];
     r.shorts(&mut coeffs);
     let mut case = |modes: &[u8; 3], sub_modes: &[u8], record: &[u8; 81]| {
-        let equal = equal(&mut pair, modes, sub_modes, record, &coeffs);
+        let equal = both.equal(modes, sub_modes, record, &coeffs);
         tally.count(equal, || describe(modes, sub_modes, record, &coeffs));
     };
     let good = data::record(&mut r, 1023);

@@ -2,8 +2,9 @@
 //! the project's papers, in unbounded numbers where those say so; everything else is what the Rust returns.
 //!
 //! A function has the parameters of its C namesake, slices for pointers and lengths, and any lengths are allowed: it
-//! returns the reply, and leaves in the slice that it is lent what the C function must leave there.
+//! returns the reply, and leaves in the slices that it is lent what the C function must leave there.
 
+use crate::clipped as clipped_sums;
 use vp8::dequant::MbDequantFactors;
 use vp8::frame::MbCoeffs;
 use vp8::intra_predict;
@@ -119,11 +120,22 @@ pub fn in_plane(length: usize, stride: usize, sub_row: usize, sub_col: usize) ->
     last_row.is_some_and(|start| start <= length && start + 4 * col + 4 <= length)
 }
 
-pub fn inverse_dct_add_into(input: &[i16], plane: &mut [u8], stride: usize, sub_row: usize, sub_col: usize) -> u32 {
-    let Ok(input) = input.try_into() else { return WRONG_LENGTH };
+pub fn inverse_dct_add_into(
+    input: &[i16],
+    plane: &mut [u8],
+    stride: usize,
+    sub_row: usize,
+    sub_col: usize,
+    clipped: &mut [u64],
+) -> u32 {
+    let (Ok(input), Ok([clipped])) = (input.try_into(), <&mut [u64; 1]>::try_from(clipped)) else {
+        return WRONG_LENGTH;
+    };
+    *clipped = 0;
     if !in_plane(plane.len(), stride, sub_row, sub_col) {
         return OUTSIDE_PLANE;
     }
+    *clipped = clipped_sums::block(&clipped_sums::part(plane, stride, sub_row, sub_col), input);
     transform::inverse_dct_4x4_add_into(input, plane, stride, sub_row, sub_col);
     DONE
 }
@@ -243,13 +255,21 @@ pub fn walk(
     }
 }
 
-pub fn macroblock(modes: &[u8], sub_modes: &[u8], record: &[u8], coeffs: &[i16], out: &mut [u8]) -> u32 {
+pub fn macroblock(
+    modes: &[u8],
+    sub_modes: &[u8],
+    record: &[u8],
+    coeffs: &[i16],
+    out: &mut [u8],
+    clipped: &mut [u64],
+) -> u32 {
     let sub_lengths = [0, 16];
-    let (Ok(modes), Ok(record), Ok(coeffs), Ok(out)) = (
+    let (Ok(modes), Ok(record), Ok(coeffs), Ok(out), Ok([clipped])) = (
         <&[u8; 3]>::try_from(modes),
         <&[u8; 81]>::try_from(record),
         <&[i16; 400]>::try_from(coeffs),
         <&mut [u8; 384]>::try_from(out),
+        <&mut [u64; 1]>::try_from(clipped),
     ) else {
         return WRONG_LENGTH;
     };
@@ -257,6 +277,7 @@ pub fn macroblock(modes: &[u8], sub_modes: &[u8], record: &[u8], coeffs: &[i16],
         return WRONG_LENGTH;
     }
     out.fill(0);
+    *clipped = 0;
     let [y, uv, skip] = *modes;
     let (Some(&y), Some(&uv)) = (Y_MODES.get(usize::from(y)), UV_MODES.get(usize::from(uv))) else {
         return UNKNOWN_BYTE;
@@ -272,8 +293,10 @@ pub fn macroblock(modes: &[u8], sub_modes: &[u8], record: &[u8], coeffs: &[i16],
         }
     }
     let given = (!sub_modes.is_empty()).then_some(&by_number);
-    match walk(y, uv, skip == 1, given, &neighbors(record), &Blocks::of(coeffs)) {
+    let (neighbors, blocks) = (neighbors(record), Blocks::of(coeffs));
+    match walk(y, uv, skip == 1, given, &neighbors, &blocks) {
         Ok(drawn) => {
+            *clipped = clipped_sums::macroblock(y, uv, skip == 1, &by_number, &neighbors, &blocks, &drawn);
             out[..256].copy_from_slice(&drawn.y);
             out[256..320].copy_from_slice(&drawn.u);
             out[320..].copy_from_slice(&drawn.v);

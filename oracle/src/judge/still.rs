@@ -2,6 +2,7 @@
 //! raster order, each on neighbours taken from the planes that were drawn so far. The Rust has neither the calls nor
 //! the gathering, so the edges of the picture, the refusals and their order are stated here from the project's papers.
 
+use crate::clipped as clipped_sums;
 use crate::expected::{walk, Blocks, B_MODES, OUTSIDE_PICTURE, UNKNOWN_BYTE, UV_MODES, WRONG_LENGTH, Y_MODES};
 use vp8::macroblock::{IntraBmode, IntraUvMode, IntraYMode};
 use vp8::reconstruct::MbNeighbors;
@@ -69,9 +70,15 @@ fn put<const N: usize>(plane: &mut [u8], cols: usize, row: usize, col: usize, dr
     }
 }
 
-/// The answer to a still: with the pixels right of the picture or, where `right` is none, without.
-pub fn still(still: Still<'_>, right: Option<&[u8]>, planes: Planes<'_>) -> u64 {
+/// The answer to a still: with the pixels right of the picture or, where `right` is none, without. A count of another
+/// length than 1 is a slice of a wrong length, and is not written; else it is 0 in every refusal before the first
+/// macroblock.
+pub fn still(still: Still<'_>, right: Option<&[u8]>, planes: Planes<'_>, clipped: &mut [u64]) -> u64 {
     let Still { cols, rows, .. } = still;
+    let mut clipped = <&mut [u64; 1]>::try_from(clipped).ok();
+    if let Some([total]) = &mut clipped {
+        *total = 0;
+    }
     let Planes { y, u, v } = planes;
     let side = 1..=1024;
     if !side.contains(&cols) || !side.contains(&rows) {
@@ -83,6 +90,7 @@ pub fn still(still: Still<'_>, right: Option<&[u8]>, planes: Planes<'_>) -> u64 
     if lengths != fit || right.is_some_and(|right| right.len() != 4 * (rows - 1)) {
         return WRONG_LENGTH.into();
     }
+    let Some([total]) = clipped else { return WRONG_LENGTH.into() };
     for index in 0..count {
         let (row, col) = (index / cols, index % cols);
         let (bytes, sub_bytes) = (&still.modes[3 * index..][..3], &still.sub_modes[16 * index..][..16]);
@@ -106,8 +114,10 @@ pub fn still(still: Still<'_>, right: Option<&[u8]>, planes: Planes<'_>) -> u64 
             v_left,
         };
         let coeffs = still.coeffs[400 * index..][..400].try_into().expect("a macroblock has 400 coefficients");
-        let drawn = walk(y_mode, uv_mode, skip, Some(&sub_modes), &neighbors, &Blocks::of(coeffs));
+        let blocks = Blocks::of(coeffs);
+        let drawn = walk(y_mode, uv_mode, skip, Some(&sub_modes), &neighbors, &blocks);
         let drawn = drawn.expect("the Rust draws what has known modes");
+        *total += clipped_sums::macroblock(y_mode, uv_mode, skip, &sub_modes, &neighbors, &blocks, &drawn);
         put::<16>(y, cols, row, col, &drawn.y);
         put::<8>(u, cols, row, col, &drawn.u);
         put::<8>(v, cols, row, col, &drawn.v);

@@ -136,7 +136,7 @@ fn add_into(s: &mut Sample, number: u8, room: usize, kind: usize, length: usize,
     }
     input.extend((length as u16).to_le_bytes());
     input.extend(&plane);
-    let answer = expected::inverse_dct_add_into(&block, &mut plane[..length], stride, sub_row, sub_col);
+    let answer = expected::inverse_dct_add_into(&block, &mut plane[..length], stride, sub_row, sub_col, &mut [0]);
     s.record(number, &input, &join(&[&reply(answer), &plane]));
 }
 
@@ -259,7 +259,7 @@ fn begin(modes: [u8; 3], sub_modes: Option<[u8; 16]>, unused: [u8; 16], record: 
 fn drawn(modes: [u8; 3], sub_modes: Option<[u8; 16]>, record: &[u8; 81], coeffs: &[i16; 400]) -> Vec<u8> {
     let mut out = [FILL; 384];
     let given = sub_modes.as_ref().map_or(&[][..], |modes| &modes[..]);
-    let number = expected::macroblock(&modes, given, record, coeffs, &mut out);
+    let number = expected::macroblock(&modes, given, record, coeffs, &mut out, &mut [0]);
     join(&[&reply(number), &out])
 }
 

@@ -45,7 +45,7 @@ impl Case {
     }
 
     /// Draws by `draw` and says how the planes differ: nothing where they are equal.
-    fn differs(&self, draw: impl FnOnce(&Still<'_>, PlanesMut<'_>) -> Result<(), StillRefused>) -> Option<String> {
+    fn differs(&self, draw: impl FnOnce(&Still<'_>, PlanesMut<'_>) -> Result<u64, StillRefused>) -> Option<String> {
         let count = self.cols * self.rows;
         let mut drawn = vec![!0; 384 * count];
         let (y, uv) = drawn.split_at_mut(256 * count);

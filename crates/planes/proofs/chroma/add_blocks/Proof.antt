@@ -1,9 +1,8 @@
 -- `planes::chroma::add_blocks` meets its contract. Assumes nothing.
 use Prim.Native.Nat.{_-_, _≤_}
-use mathlib.Core.Path.{_≡_, refl, _∙_}
+use mathlib.Core.Path.{_≡_, refl}
 use Rattle.lists.specs.Lists.{turns}
 use Rattle.lists.proofs.Turns.{turns-step, turns-done}
-use Rattle.planes.proofs.Added.{chroma-added}
 use Rattle.planes.specs.Steps.{rowAdded}
 use borrow.Author.Needs.{needs}
 use native.Mathlib.Omega.{arith}
@@ -11,10 +10,10 @@ use Rattle.planes.proofs.chroma.add_blocks.Statement.{statement}
 use Rattle.planes.proofs.chroma.add_blocks.Tie as tie
 
 abbrev Inv-loop : tie.InvT-loop
-Inv-loop px₀ coeffs base o r₀ px r = (r ≤ 8) × (px ≡ turns r (rowAdded o) px₀)
+Inv-loop px₀ o r₀ px r = (r ≤ 8) × (px ≡ turns r (rowAdded o) px₀)
 
 abbrev μ-loop : tie.MeasureT-loop
-μ-loop px₀ coeffs base o r₀ px r = 8 - r
+μ-loop px₀ o r₀ px r = 8 - r
 
 loop-holds : tie.Need-loop-holds Inv-loop μ-loop
 unfolding turns
@@ -24,9 +23,7 @@ loop-again : tie.Need-loop-again Inv-loop μ-loop
 loop-again c = (omega arith, turns-step _ _ _ _ _ (c .before .before .before .loop .inv .1) (c .add-row .ensures))
 
 returns : tie.Need-returns Inv-loop μ-loop
-returns c =
-    turns-done _ _ _ _ _ (c .before .loop .inv .1) (c .before .loop .inv .0) (c .loop-test .left)
-    ∙ rw (c .before .before .residues .ensures) (chroma-added _ _ _ (c .before .before .before .pre))
+returns c = turns-done _ _ _ _ _ (c .before .loop .inv .1) (c .before .loop .inv .0) (c .loop-test .left)
 
 pub add-blocks-spec : {M : Type 1} → statement M
 add-blocks-spec =
@@ -34,7 +31,6 @@ add-blocks-spec =
     (tie.spec
     Inv-loop
     μ-loop
-    (λ c κs. search needs)
     loop-holds
     (λ c κs. search needs)
     (λ c. omega arith)

@@ -1,13 +1,15 @@
 -- `planes::u_plane` meets its contract. Assumes nothing.
-use Rattle.rfc6386.specs.Walk.{uPlane, uPrediction, plane}
+use mathlib.Core.Path.{refl}
 use borrow.Author.Needs.{needs}
-use borrow.Author.Needs.{needs}
+use Rattle.rfc6386.specs.Walk.{uPlane, uPrediction}
+use Rattle.clipping.specs.Clipped.{uClipped}
+use Rattle.planes.specs.Drawn.{chromaOf, uDrawn}
 use Rattle.planes.proofs.chroma.u_plane.Statement.{statement}
 use Rattle.planes.proofs.chroma.u_plane.Tie as tie
 
 returns : tie.Need-returns
-unfolding uPlane uPrediction
-returns c = rw (c .plane .ensures, c .before .predict-uv8x8 .ensures, c .before .before .pixel-or .ensures)
+unfolding uDrawn uPlane uPrediction uClipped chromaOf
+returns c = rw (c .plane .ensures, c .before .predict-uv8x8 .ensures, c .before .before .pixel-or .ensures) refl
 
 pub u-plane-spec : {M : Type 1} → statement M
 u-plane-spec = tie.close (tie.spec (λ c κs. search needs) (λ c κs. search needs) (λ c κs. search needs) returns)

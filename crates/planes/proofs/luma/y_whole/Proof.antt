@@ -1,17 +1,17 @@
 -- `planes::y_whole` meets its contract. Assumes nothing.
-use Rattle.rfc6386.specs.Walk.{yWhole, plane}
+use mathlib.Core.Path.{_≡_, _∙_}
+use native.Mathlib.Omega.{arith}
 use borrow.Author.Needs.{needs}
-use borrow.Author.Needs.{needs}
+use lib.ListN.{length}
+use Rattle.planes.proofs.Whole.{y-skipped, y-coded}
 use Rattle.planes.proofs.luma.y_whole.Statement.{statement}
 use Rattle.planes.proofs.luma.y_whole.Tie as tie
 
 returns : tie.Need-returns
-unfolding yWhole plane
-returns c = rw (c .if1 .taken) (c .before .predicted .ensures)
+returns c = rw (c .if1 .taken) (y-skipped _ _ _ _ (c .before .predicted .ensures))
 
 returns-2 : tie.Need-returns-2
-unfolding yWhole plane
-returns-2 c = rw (c .before .before .if1 .left, c .add-blocks .ensures, c .before .before .before .predicted .ensures)
+returns-2 c = rw (c .before .if1 .left) (y-coded _ _ _ _ _ (c .before .before .predicted .ensures) (c .coded .ensures))
 
 pub y-whole-spec : {M : Type 1} → statement M
-y-whole-spec = tie.close (tie.spec (λ c κs. search needs) returns (λ c κs. search needs) returns-2)
+y-whole-spec = tie.close (tie.spec (λ c κs. tt) returns (λ c κs. search needs) returns-2)

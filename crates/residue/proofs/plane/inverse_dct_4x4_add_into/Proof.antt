@@ -11,6 +11,7 @@ use Rattle.residue.proofs.AcFree.{dc-way}
 use Rattle.residue.proofs.Answers.{into-given, into-refused}
 use Rattle.residue.proofs.Geometry.{Room, lies-room}
 use Rattle.residue.proofs.Part.{added-back}
+use Rattle.residue.proofs.Counted.{counted-back}
 use Rattle.residue.proofs.plane.inverse_dct_4x4_add_into.Statement.{statement}
 use Rattle.residue.proofs.plane.inverse_dct_4x4_add_into.Tie as tie
 
@@ -22,11 +23,11 @@ inside c = sym (c .before .block-lies .ensures) ∙ c .if1 .taken
 room : (c : tie.Then1) → let x = c .before .before .before .args in Room (length (x .plane .now)) (x .stride) (x .sub-row) (x .sub-col)
 room c = lies-room _ _ _ _ (inside c)
 
-add-rows-requires : tie.Need-add-rows-requires
-add-rows-requires c κs = let h = room (c .before .before .before .before .before) in rw (tail-whole, length-drop) (omega arith)
+add-counted-requires : tie.Need-add-counted-requires
+add-counted-requires c κs = let h = room (c .before .before .before .before .before) in rw (tail-whole, length-drop) (omega arith)
 
-add-rows-requires-2 : tie.Need-add-rows-requires-2
-add-rows-requires-2 c κs = let h = room (c .before .before .before .before) in rw (tail-whole, length-drop) (omega arith)
+add-counted-requires-2 : tie.Need-add-counted-requires-2
+add-counted-requires-2 c κs = let h = room (c .before .before .before .before) in rw (tail-whole, length-drop) (omega arith)
 
 returns : tie.Need-returns
 returns c =
@@ -36,9 +37,11 @@ returns c =
     let i = t .before .before in
     let x = i .before .before .before .args in
     let h = room i in
-    into-given (x .t1) (x .stride) (x .sub-row) (x .sub-col) (x .plane .now) (d .dc-only .result) _ (inside i)
+    let res = d .dc-only .result in
+    into-given (x .t1) (x .stride) (x .sub-row) (x .sub-col) (x .plane .now) res _ _ (inside i)
     (dc-way (x .t1) _ (sym (t .before .ac-free .ensures) ∙ t .if2 .taken) (d .before .dc-only-arg .given) (d .dc-only .ensures))
-    (added-back (x .stride) (d .dc-only .result) _ (x .plane .now) _ (omega arith) (a .add-rows .ensures))
+    (added-back (x .stride) res _ (x .plane .now) _ (omega arith) (a .add-counted .ensures .1))
+    (a .add-counted .ensures .0 ∙ counted-back (x .stride) res _ (x .plane .now))
 
 returns-2 : tie.Need-returns-2
 returns-2 c =
@@ -47,9 +50,11 @@ returns-2 c =
     let i = d .before .before .before .before in
     let x = i .before .before .before .args in
     let h = room i in
-    into-given (x .t1) (x .stride) (x .sub-row) (x .sub-col) (x .plane .now) (d .inverse-dct-4x4 .result) _ (inside i)
+    let res = d .inverse-dct-4x4 .result in
+    into-given (x .t1) (x .stride) (x .sub-row) (x .sub-col) (x .plane .now) res _ _ (inside i)
     (d .inverse-dct-4x4 .ensures)
-    (added-back (x .stride) (d .inverse-dct-4x4 .result) _ (x .plane .now) _ (omega arith) (a .add-rows2 .ensures))
+    (added-back (x .stride) res _ (x .plane .now) _ (omega arith) (a .add-counted2 .ensures .1))
+    (a .add-counted2 .ensures .0 ∙ counted-back (x .stride) res _ (x .plane .now))
 
 returns-3 : tie.Need-returns-3
 returns-3 c =
@@ -71,14 +76,14 @@ inverse-dct-4x4-add-into-spec =
     (λ c. search needs)
     (λ c. search needs)
     (λ c κs. tt)
-    add-rows-requires
+    add-counted-requires
+    (λ c. search needs)
+    returns
     (λ c. omega (arith, room (c .before .before)))
     (λ c. omega (arith, room (c .before .before)))
     (λ c. search needs)
     (λ c κs. tt)
-    add-rows-requires-2
-    (λ c. search needs)
-    returns
+    add-counted-requires-2
     (λ c. search needs)
     returns-2
     returns-3)

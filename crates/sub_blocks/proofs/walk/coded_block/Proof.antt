@@ -1,18 +1,18 @@
 -- `sub_blocks::walk::coded_block` meets its contract. Assumes nothing.
-use Rattle.sub_blocks.specs.Steps.{predictionAt, codedBlock}
+use mathlib.Core.Path.{refl}
 use borrow.Author.Needs.{needs}
+use Rattle.sub_blocks.specs.Steps.{predictionAt, codedBlock}
 use Rattle.sub_blocks.proofs.walk.coded_block.Statement.{statement}
 use Rattle.sub_blocks.proofs.walk.coded_block.Tie as tie
 
 returns : tie.Need-returns
 unfolding codedBlock predictionAt
-returns c =
-    rw (
-      c .sum-block .ensures,
-      c .before .before .before .predict .ensures,
-      c .before .before .before .before .before .before .corner-of .ensures,
-    )
+returns c = (
+  rw (c .before .before .sum-block .ensures, c .before .before .before .before .before .predict .ensures, c .before .before .before .before .before .before .before .before .corner-of .ensures),
+  rw (c .clipped .ensures, c .before .before .before .before .before .predict .ensures, c .before .before .before .before .before .before .before .before .corner-of .ensures),
+)
 
 pub coded-block-spec : {M : Type 1} → statement M
 coded-block-spec =
-    tie.close (tie.spec (λ c. search needs) (λ c. search needs) (λ c κs. search needs) (λ c κs. search needs) (λ c κs. search needs) returns)
+    tie.close
+    (tie.spec (λ c. search needs) (λ c. search needs) (λ c κs. search needs) (λ c κs. search needs) (λ c κs. search needs) (λ c κs. search needs) returns)

@@ -5,8 +5,8 @@
  * call. Nothing is kept between calls, nothing is allocated, and no function asks anything of its arguments but that
  * each pointer has as many elements behind it as its length says: a wrong value is refused by a number.
  *
- * Every function answers with a reply number; the two that draw a still put a macroblock's index before it. Where
- * several hold, the first of its own list is given:
+ * Every function answers with a reply number; the two that draw a still put a macroblock's index before it, and
+ * zopredil_shelf also has a reply for each of its macroblocks. Where several hold, the first of its own list is given:
  *
  *     0  done
  *     1  a slice has the wrong length
@@ -50,9 +50,9 @@
  * An absent pixel above or at the top-left counts as 127 and an absent pixel to the left as 129, but in DC prediction
  * of 16x16 and 8x8 blocks, which averages the edges that are there, and is 128 without any.
  *
- * zopredil_inverse_dct_add_into, zopredil_macroblock and the two calls that draw a still end with clipped, a slice of 1:
- * how many of their sums of prediction and residue were below 0 or above 255 before they were clamped. Where the
- * coefficients are skipped there is no sum.
+ * zopredil_inverse_dct_add_into, zopredil_macroblock, the two calls that draw a still and zopredil_shelf end with
+ * clipped, a slice of 1: how many of their sums of prediction and residue were below 0 or above 255 before they were
+ * clamped. Where the coefficients are skipped there is no sum.
  */
 #ifndef ZOPREDIL_H
 #define ZOPREDIL_H
@@ -193,6 +193,25 @@ uint64_t zopredil_still_alone(size_t cols, size_t rows, const uint8_t *modes, si
                               const uint8_t *sub_modes, size_t sub_modes_len, const int16_t *coeffs, size_t coeffs_len,
                               uint8_t *y, size_t y_len, uint8_t *u, size_t u_len, uint8_t *v, size_t v_len,
                               uint64_t *clipped, size_t clipped_len);
+
+/* Draws a shelf of n loose macroblocks (14.2, and 12.3 for mode B), where n is replies_len and may be 0. Item k of it,
+ * counted from 0, is what zopredil_macroblock draws from part k of each slice, and nothing of another item changes it:
+ *
+ *     slice       part
+ *     modes          3 bytes: luma mode, chroma mode, skip
+ *     records       81 bytes: the neighbour record
+ *     sub_modes     16 bytes, looked at in luma mode B only
+ *     coeffs       400 numbers: Y2 16, Y 256, U 64, V 64; luma mode B does not use the first 16
+ *     out          384 bytes: Y 256, U 64, V 64
+ *     replies        1 byte: 0; 8 for an unknown mode, skip or mark byte, or sub-block mode (in luma mode B)
+ *
+ * A slice has exactly n parts, and clipped 1 number, the total of the items. An item of reply 8 is 384 zeros and adds
+ * nothing to clipped; the other items are drawn all the same, and the call answers 0. Replies: 1 for any slice, nothing
+ * written. */
+uint32_t zopredil_shelf(const uint8_t *modes, size_t modes_len, const uint8_t *records, size_t records_len,
+                        const uint8_t *sub_modes, size_t sub_modes_len, const int16_t *coeffs, size_t coeffs_len,
+                        uint8_t *out, size_t out_len, uint8_t *replies, size_t replies_len, uint64_t *clipped,
+                        size_t clipped_len);
 
 #ifdef __cplusplus
 }

@@ -12,7 +12,8 @@
 //! # Ok::<(), zopredil::Reply>(())
 //! ```
 //!
-//! [`still_alone`] draws a whole still, [`still`] one that comes with the pixels right of the picture.
+//! [`still_alone`] draws a whole still, [`still`] one that comes with the pixels right of the picture. [`shelf`] draws
+//! loose macroblocks, each from its own neighbours and whatever becomes of the others.
 //!
 //! [`gather`] takes the neighbours of a macroblock from the finished planes of a picture, with the four pixels that
 //! [`right_pixels`] gives at the picture's right end, and [`macroblock`] draws it. The steps between are here too:
@@ -31,6 +32,7 @@ mod neighbors;
 mod predict;
 pub mod raw;
 mod reply;
+mod shelf;
 mod still;
 mod transform;
 
@@ -39,6 +41,7 @@ pub use modes::{IntraBmode, IntraUvMode, IntraYMode, MbModes};
 pub use neighbors::Neighbors;
 pub use predict::{predict_b4x4, predict_uv8x8, predict_y16x16};
 pub use reply::Reply;
+pub use shelf::{shelf, Job, MbPlanes, Shelf};
 pub use still::{still, still_alone, PlanesMut, Still, StillRefused};
 pub use transform::{
     add_residue, dequant_block, dequantise, inverse_dct, inverse_dct_add_into, inverse_wht, inverse_wht_dc_only,

@@ -121,4 +121,16 @@ extern "C" {
         v: *mut u8, v_len: usize,
         clipped: *mut u64, clipped_len: usize,
     ) -> u64;
+
+    /// Draws n loose macroblocks; `modes` 3 n, `records` 81 n, `sub_modes` 16 n, `coeffs` 400 n, `out` 384 n,
+    /// `replies` n, one for each, `clipped` 1.
+    pub fn zopredil_shelf(
+        modes: *const u8, modes_len: usize,
+        records: *const u8, records_len: usize,
+        sub_modes: *const u8, sub_modes_len: usize,
+        coeffs: *const i16, coeffs_len: usize,
+        out: *mut u8, out_len: usize,
+        replies: *mut u8, replies_len: usize,
+        clipped: *mut u64, clipped_len: usize,
+    ) -> u32;
 }

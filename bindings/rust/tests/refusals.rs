@@ -203,6 +203,68 @@ fn wrong_lengths_of_a_macroblock() {
     }
 }
 
+/// Draws a shelf through the C interface, of lists in which every byte is `byte`, each lent as long as `lengths` says:
+/// modes, records, sub-block modes, coefficients, bytes, replies, counts. The reply, and whether all that could be
+/// written is as found.
+fn shelve(byte: u8, lengths: [usize; 7]) -> (u32, bool) {
+    let [modes, records, sub_modes, coeffs, out, replies, counts] = lengths;
+    let (bytes, numbers) = (vec![byte; 2000], vec![0; 2000]);
+    let (mut pixels, mut answers, mut clipped) = ([MARK; 2000], [MARK; 8], [COUNT; 2]);
+    assert!(lengths[..5].iter().all(|&length| length <= 2000) && replies <= 8 && counts <= 2);
+    let reply = unsafe {
+        zopredil_shelf(
+            bytes.as_ptr(),
+            modes,
+            bytes.as_ptr(),
+            records,
+            bytes.as_ptr(),
+            sub_modes,
+            numbers.as_ptr(),
+            coeffs,
+            pixels.as_mut_ptr(),
+            out,
+            answers.as_mut_ptr(),
+            replies,
+            clipped.as_mut_ptr(),
+            counts,
+        )
+    };
+    (reply, pixels == [MARK; 2000] && answers == [MARK; 8] && clipped == [COUNT; 2])
+}
+
+#[test]
+fn wrong_lengths_of_a_shelf() {
+    let an_item = [3, 81, 16, 400, 384, 1];
+    let of = |count: usize| {
+        let [m, r, s, c, o, n] = an_item.map(|each| each * count);
+        [m, r, s, c, o, n, 1]
+    };
+    // 9 is no mode's number, and no skip or mark byte: 1 comes before 8
+    for byte in [0, 9] {
+        for count in 0..=3 {
+            assert_eq!(shelve(byte, of(count)), (0, false));
+            for slice in 0..7 {
+                let (fit, each) = (of(count)[slice], if slice < 6 { an_item[slice] } else { 1 });
+                for length in [Some(0), fit.checked_sub(each), fit.checked_sub(1), Some(fit + 1), Some(fit + each)] {
+                    if let Some(length) = length.filter(|&length| length != fit) {
+                        let mut lengths = of(count);
+                        lengths[slice] = length;
+                        assert_eq!(shelve(byte, lengths), (1, true), "{lengths:?}");
+                    }
+                }
+            }
+            // every list but one fits another number of items
+            for other in (0..=4).filter(|&other| other != count) {
+                for slice in 0..6 {
+                    let mut lengths = of(other);
+                    lengths[slice] = of(count)[slice];
+                    assert_eq!(shelve(byte, lengths), (1, true), "{lengths:?}");
+                }
+            }
+        }
+    }
+}
+
 #[test]
 fn wrong_lengths_of_blocks() {
     let input = [1; 17];

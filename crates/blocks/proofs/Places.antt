@@ -6,7 +6,7 @@ use native.Mathlib.Omega.{arith}
 use lib.IntN.{ℤ, pos}
 use lib.ListN.{length, getD}
 use Rattle.lists.proofs.Table.{table-length, table-at}
-use Rattle.rfc6386.specs.Dct.{residue, entry, idctFour}
+use Rattle.rfc6386.specs.Dct.{residue, entry}
 use Rattle.rfc6386.specs.Walk.{blockAt}
 use Rattle.rfc6386.proofs.DctBlocks.{residue-ext, four-at}
 use Rattle.blocks.specs.Taken.{taken, residuesFrom}

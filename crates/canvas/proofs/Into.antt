@@ -1,7 +1,7 @@
 -- A macroblock drawn into the planes, by the outcome of the two tests. Assumes nothing.
 use Prim.Native.Nat.{ℕ}
 use mathlib.Core.Bool.{true}
-use mathlib.Core.Path.{_≡_, refl, ap}
+use mathlib.Core.Path.{_≡_, refl}
 use mathlib.Core.List.{List}
 use borrow.Author.Tests.{eq-eqb, ne-eqb}
 use lib.IntN.{ℤ}
@@ -12,33 +12,31 @@ use Rattle.gathering.specs.Answers.{gathered}
 use Rattle.reconstruct.specs.declared.ReconstructedMb.{ReconstructedMb}
 use Rattle.drawing.specs.Drawn.{drawn}
 use Rattle.canvas.specs.Placed.{placed}
-use Rattle.canvas.specs.Drawn.{made, drawnInto, clippedInto}
+use Rattle.canvas.specs.Drawn.{made, drawnInto, clippedInto, toldInto}
 
 module _ (w h c r luma chroma skip : ℕ) (subs right : List ℕ) (coeffs : List ℤ) (y u v : List ℕ) (g : Gathered) (e : g ≡ gathered y u v w h c r right) where
   pub not-gathered : (g .reply ≡ 0 → ⊥)
-      → (g .reply beside y beside u beside v) ≡ drawnInto w h c r luma chroma skip subs right coeffs y u v
-  unfolding drawnInto
+      → ((g .reply beside y beside u beside v) beside 0) ≡ toldInto w h c r luma chroma skip subs right coeffs y u v
+  unfolding drawnInto clippedInto
   not-gathered k = rw (← e, ne-eqb (g .reply) 0 k)
-
-  pub not-counted : (g .reply ≡ 0 → ⊥) → 0 ≡ clippedInto w h c r luma chroma skip subs right coeffs y u v
-  unfolding clippedInto
-  not-counted k = rw (← e, ne-eqb (g .reply) 0 k)
 
   module _ (z : g .reply ≡ 0) (m : ReconstructedMb) (d : m ≡ drawn luma chroma skip subs true (g .neighbors) coeffs) where
     is-made : m ≡ made w h c r luma chroma skip subs right coeffs y u v
     unfolding made
     is-made = rw (← e) d
 
-    pub counted : m .clipped ≡ clippedInto w h c r luma chroma skip subs right coeffs y u v
+    counted : m .clipped ≡ clippedInto w h c r luma chroma skip subs right coeffs y u v
     unfolding clippedInto
     counted = rw (← e, eq-eqb (g .reply) 0 z, ← is-made)
 
-    pub not-drawn : (m .reply ≡ 0 → ⊥) → (m .reply beside y beside u beside v) ≡ drawnInto w h c r luma chroma skip subs right coeffs y u v
+    pub not-drawn : (m .reply ≡ 0 → ⊥)
+        → ((m .reply beside y beside u beside v) beside m .clipped) ≡ toldInto w h c r luma chroma skip subs right coeffs y u v
     unfolding drawnInto
-    not-drawn k = rw (← e, eq-eqb (g .reply) 0 z, ← is-made, ne-eqb (m .reply) 0 k)
+    not-drawn k = pair (rw (← e, eq-eqb (g .reply) 0 z, ← is-made, ne-eqb (m .reply) 0 k)) counted
 
     pub is-drawn : (yy uu vv : List ℕ) → m .reply ≡ 0
         → (yy ≡ placed 16 w r c (m .y) y) × (uu ≡ placed 8 w r c (m .u) u) × (vv ≡ placed 8 w r c (m .v) v)
-        → (0 beside yy beside uu beside vv) ≡ drawnInto w h c r luma chroma skip subs right coeffs y u v
+        → ((0 beside yy beside uu beside vv) beside m .clipped) ≡ toldInto w h c r luma chroma skip subs right coeffs y u v
     unfolding drawnInto
-    is-drawn yy uu vv k p = rw (← e, eq-eqb (g .reply) 0 z, ← is-made, eq-eqb (m .reply) 0 k) (pair refl (pair (p .0) (pair (p .1) (p .2))))
+    is-drawn yy uu vv k p =
+        pair (rw (← e, eq-eqb (g .reply) 0 z, ← is-made, eq-eqb (m .reply) 0 k) (pair refl (pair (p .0) (pair (p .1) (p .2))))) counted

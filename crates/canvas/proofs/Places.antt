@@ -1,12 +1,12 @@
 -- Where the rows of a block stand in the plane in which it lies. Assumes nothing.
 use Prim.Native.Nat.{ℕ, suc, _+_, _*_, _<_, _≤_}
-use mathlib.Core.Path.{_≡_, sym, ap, _∙_}
+use mathlib.Core.Path.{_≡_}
 use mathlib.Core.List.{List}
-use native.Mathlib.Nat.{mul-le-mul-left, mul-le-mul-right, mul-le-mul, mul-suc, suc-mul, mul-one, one-mul}
+use native.Mathlib.Nat.{mul-le-mul-left, mul-le-mul-right, mul-suc, suc-mul}
 use native.Mathlib.Omega.{arith}
 use lib.ListN.{length}
 use Rattle.picture_limits.specs.Place.{Placed}
-use Rattle.picture_limits.proofs.Bounds.{Bounds, bounds}
+use Rattle.picture_limits.proofs.Bounds.{bounds}
 
 -- row i of the block, and what its numbers keep to
 pub record RowAt (n : ℕ) (l : List ℕ) (w r c i : ℕ) : Type 0 where

@@ -31,3 +31,7 @@ module _ (w h c r luma chroma skip : ℕ) (subs right : List ℕ) (coeffs : List
   -- how many sums of it were below 0 or above 255; 0 where it is refused
   unfoldable pub clippedInto : ℕ
   clippedInto = pick (eqb (gathered y u v w h c r right .reply) done) (made .clipped) 0
+
+  -- both
+  abbrev pub toldInto : (ℕ × (List ℕ × (List ℕ × List ℕ))) × ℕ
+  toldInto = drawnInto beside clippedInto

@@ -6,7 +6,7 @@ ghost use Rattle.lists.specs.Lists.{turns, store};
 ghost use Rattle.slices.specs.Copies.{_beside_};
 ghost use Rattle.picture_limits.specs.Place.{Placed};
 ghost use Rattle.canvas.specs.Placed.{placed};
-ghost use Rattle.canvas.specs.Drawn.{drawnInto, clippedInto};
+ghost use Rattle.canvas.specs.Drawn.{toldInto};
 use macroblock::reply;
 use reconstruct::ReconstructedMb;
 
@@ -78,9 +78,8 @@ pub fn draw_macroblock(
     u: &mut [u8],
     v: &mut [u8],
 ) -> DrawnMb
-    ensures { λ r. ⌜ ((r .reply beside now (y .exit) beside now (u .exit) beside now (v .exit))
-        ≡ drawnInto cols rows col row luma chroma skip «sub_modes» right (now (coeffs .entry)) (now (y .entry)) (now (u .entry)) (now (v .entry)))
-        × (r .clipped ≡ clippedInto cols rows col row luma chroma skip «sub_modes» right (now (coeffs .entry)) (now (y .entry)) (now (u .entry)) (now (v .entry))) ⌝ }
+    ensures { λ r. ⌜ ((r .reply beside now (y .exit) beside now (u .exit) beside now (v .exit)) beside r .clipped)
+        ≡ toldInto cols rows col row luma chroma skip «sub_modes» right (now (coeffs .entry)) (now (y .entry)) (now (u .entry)) (now (v .entry)) ⌝ }
 {
     let gathered = gathering::gather(y, u, v, cols, rows, col, row, right);
     if gathered.reply != reply::DONE {

@@ -1,3 +1,5 @@
 -- Theorems on a macroblock drawn from its bytes.
---     OneAnswer     the public promise admits one answer only
+--     Shape         every answer has its pixels, a reply of at most 8 and at most 384 sums counted
+--     OneAnswer     each public promise admits one answer only
+pub mod Shape
 pub mod OneAnswer

@@ -3,7 +3,7 @@
 -- sub-block byte that is no mode's number are reply 8. Sub-block bytes are looked at in luma mode B alone.
 use Prim.Native.Nat.{ℕ}
 use mathlib.Core.Bool.{Bool}
-use mathlib.Core.List.{List}
+use mathlib.Core.List.{List, _++_}
 use lib.Dec.{eqb, leb}
 use lib.IntN.{ℤ}
 use lib.ListN.{length, getD, drop}
@@ -17,6 +17,10 @@ use Rattle.record_bytes.specs.Bytes.{within}
 use Rattle.rfc6386.specs.Edges.{isB}
 use Rattle.reconstruct.specs.declared.ReconstructedMb.{ReconstructedMb}
 use Rattle.reconstruct.specs.Answers.{refusal, nonB, walkB}
+
+-- the planes one after another: Y, U, V
+unfoldable pub planesOf : ReconstructedMb → List ℕ
+planesOf r = r .y ++ (r .u ++ r .v)
 
 -- the three mode bytes
 unfoldable pub modesKnown : ℕ → ℕ → ℕ → Bool
@@ -37,6 +41,10 @@ drawnB modes subs there n coeffs =
 -- a macroblock of known modes
 unfoldable pub drawnIn : MbModes → List ℕ → Bool → MbNeighbors → List ℤ → ReconstructedMb
 drawnIn modes subs there n coeffs = pick (isB (modes .y)) (drawnB modes subs there n coeffs) (nonB modes n coeffs)
+
+-- the same, with its number of coefficients tested
+unfoldable pub drawnWith : MbModes → List ℕ → Bool → MbNeighbors → List ℤ → ReconstructedMb
+drawnWith modes subs there n coeffs = pick (eqb (length coeffs) 400) (drawnIn modes subs there n coeffs) (refusal wrongLength)
 
 -- the macroblock
 unfoldable pub drawn : ℕ → ℕ → ℕ → List ℕ → Bool → MbNeighbors → List ℤ → ReconstructedMb

@@ -3,7 +3,7 @@
 ghost use mathlib.Core.Path.{_≡_};
 ghost use Prim.Native.Nat.{_≤_};
 ghost use lib.ListN.{length};
-ghost use Rattle.drawing.specs.Drawn.{modesKnown, modesOf, subModesOf, drawnB, drawnIn, drawn};
+ghost use Rattle.drawing.specs.Drawn.{modesKnown, modesOf, subModesOf, drawnB, drawnIn, drawnWith, drawn};
 use macroblock::IntraBmode;
 use macroblock::MbModes;
 use macroblock::MbNeighbors;
@@ -77,6 +77,23 @@ fn draw_in(
         return draw_b(modes, sub_modes, sub_modes_there, neighbors, coeffs);
     }
     reconstruct::decode_keyframe_mb_non_bpred(modes, neighbors, coeffs)
+}
+
+// The planes of a macroblock whose modes are known. Refused, in this order: another number of coefficients (reply 1), in luma
+// mode B a sub-block byte that says nothing (8), luma mode B without sub-block modes (4).
+pub fn draw_with(
+    modes: MbModes,
+    sub_modes: [u8; 16],
+    sub_modes_there: bool,
+    neighbors: MbNeighbors,
+    coeffs: &[i16],
+) -> ReconstructedMb
+    ensures { λ r. ⌜ r ≡ drawnWith modes «sub_modes» «sub_modes_there» neighbors (now (coeffs .entry)) ⌝ }
+{
+    if coeffs.len() != 400 {
+        return reconstruct::refused(reply::WRONG_LENGTH);
+    }
+    draw_in(modes, sub_modes, sub_modes_there, neighbors, coeffs)
 }
 
 // The macroblock's planes. Refused, in this order: another number of coefficients (reply 1), a mode or skip byte that says

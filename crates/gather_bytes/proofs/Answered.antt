@@ -1,7 +1,6 @@
 -- What gathering over lent slices answers: each refusal with what it leaves, and else the bytes of the neighbours.
 -- Assumes nothing.
 use Prim.Native.Nat.{ℕ}
-use mathlib.Core.Bool.{true, false}
 use mathlib.Core.Path.{_≡_, refl, ap, _∙_}
 use mathlib.Core.List.{List}
 use lib.ListN.{length, replicate}

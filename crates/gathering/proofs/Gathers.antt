@@ -2,7 +2,7 @@
 -- each edge outside the picture absent with zero bytes, and each other the finished pixels beside the macroblock; below the first row the
 -- top-left pixels of the first column 129, and the four above right of the last column those given.
 -- Assumes nothing.
-use Prim.Native.Nat.{ℕ, _+_, _-_, _*_, _<_, _≤_}
+use Prim.Native.Nat.{ℕ, _+_, _-_, _*_, _<_}
 use mathlib.Core.Bool.{true}
 use mathlib.Core.Path.{_≡_, ap, _∙_}
 use mathlib.Core.List.{List}

@@ -1,6 +1,6 @@
 -- The answer, by the outcome of the tests. Assumes nothing.
-use mathlib.Core.Path.{_≡_, refl, sym, ap, _∙_}
-use mathlib.Core.Bool.{Bool, true, false}
+use mathlib.Core.Path.{_≡_, refl, ap, _∙_}
+use mathlib.Core.Bool.{true, false}
 use mathlib.Core.List.{List, [], _∷_, _++_}
 use Prim.Native.Nat.{ℕ}
 use borrow.Author.Tests.{eqb-true}
@@ -8,23 +8,17 @@ use lib.Dec.{eqb}
 use lib.IntN.{ℤ}
 use lib.ListN.{length, getD, replicate}
 use Rattle.lists.specs.Lists.{both}
-use Rattle.lists.proofs.Tests.{both-says, T-true}
-use Rattle.slices.specs.Copies.{orZeros, cleared, _beside_}
-use Rattle.slices.proofs.Copied.{or-zeros-fit}
+use Rattle.lists.proofs.Tests.{left-holds, right-holds}
+use Rattle.slices.specs.Copies.{orZeros, cleared, putIn, _beside_}
+use Rattle.slices.proofs.Copied.{or-zeros-fit, put-fit}
 use Rattle.slices.proofs.Pairs.{pair}
 use Rattle.macroblock.specs.declared.neighbors.MbNeighbors.{MbNeighbors}
 use Rattle.record_bytes.specs.Bytes.{marksKnown, recordOf}
 use Rattle.reconstruct.specs.declared.ReconstructedMb.{ReconstructedMb}
-use Rattle.drawing.specs.Drawn.{drawn}
-use Rattle.macroblock_slices.specs.Answers.{subModesFit, lengthsFit, planesOf, mbAnswer}
+use Rattle.drawing.specs.Drawn.{planesOf, drawn}
+use Rattle.macroblock_slices.specs.Answers.{subModesFit, lengthsFit, mbAnswer}
 
 -- ---- what the test of the lengths says
-left-holds : (a b : Bool) → both a b ≡ true → a ≡ true
-left-holds a b e = T-true a (both-says a b e .0)
-
-right-holds : (a b : Bool) → both a b ≡ true → b ≡ true
-right-holds a b e = T-true b (both-says a b e .1)
-
 module _ (modes subs edges coeffs out clipped : ℕ) (fit : lengthsFit modes subs edges coeffs out clipped ≡ true) where
   pub modes-fit : modes ≡ 3
   unfolding lengthsFit
@@ -57,20 +51,28 @@ module _ (modes subs edges : List ℕ) (coeffs : List ℤ) (out clipped : List �
   refused e = rw e
 
   module _ (fit : lengthsFit (length modes) (length subs) (length edges) (length coeffs) (length out) (length clipped) ≡ true) where
+    out-384 : length out ≡ 384
+    out-384 = out-fits (length modes) (length subs) (length edges) (length coeffs) (length out) (length clipped) fit
+
+    clipped-1 : length clipped ≡ 1
+    clipped-1 = clipped-fits (length modes) (length subs) (length edges) (length coeffs) (length out) (length clipped) fit
+
     bytes-same : (b : List ℕ) → b ≡ orZeros 0 81 edges → b ≡ edges
     bytes-same b e = e ∙ or-zeros-fit 0 81 edges (edges-fit (length modes) (length subs) (length edges) (length coeffs) (length out) (length clipped) fit)
 
-    pub unknown : (b then : List ℕ) → b ≡ orZeros 0 81 edges → marksKnown b ≡ false → then ≡ cleared out
-        → (8 beside then beside 0 ∷ []) ≡ mbAnswer modes subs edges coeffs out clipped
+    pub unknown : (b then count : List ℕ) → b ≡ orZeros 0 81 edges → marksKnown b ≡ false → then ≡ cleared out → count ≡ putIn 1 (0 ∷ []) clipped
+        → (8 beside then beside count) ≡ mbAnswer modes subs edges coeffs out clipped
     unfolding mbAnswer cleared
-    unknown b then e m z =
+    unknown b then count e m z n =
         rw (fit, ← bytes-same b e, m)
-        (pair refl
-        (pair (z ∙ ap (λ (k : ℕ). replicate k 0) (out-fits (length modes) (length subs) (length edges) (length coeffs) (length out) (length clipped) fit)) refl))
+        (pair refl (pair (z ∙ ap (λ (k : ℕ). replicate k 0) out-384) (n ∙ put-fit 1 (0 ∷ []) clipped clipped-1)))
 
-    pub given : (b s : List ℕ) (n : MbNeighbors) (r : ReconstructedMb) (then : List ℕ)
+    pub given : (b s : List ℕ) (n : MbNeighbors) (r : ReconstructedMb) (then count : List ℕ)
         → b ≡ orZeros 0 81 edges → marksKnown b ≡ true → s ≡ orZeros 0 16 subs → n ≡ recordOf b
-        → r ≡ drawn (getD modes 0 0) (getD modes 1 0) (getD modes 2 0) s (eqb (length subs) 16) n coeffs → then ≡ r .y ++ (r .u ++ r .v)
-        → (r .reply beside then beside r .clipped ∷ []) ≡ mbAnswer modes subs edges coeffs out clipped
+        → r ≡ drawn (getD modes 0 0) (getD modes 1 0) (getD modes 2 0) s (eqb (length subs) 16) n coeffs
+        → then ≡ putIn 384 (r .y ++ (r .u ++ r .v)) out → count ≡ putIn 1 (r .clipped ∷ []) clipped
+        → (r .reply beside then beside count) ≡ mbAnswer modes subs edges coeffs out clipped
     unfolding mbAnswer planesOf
-    given b s n r then e m p q d l = rw (fit, ← bytes-same b e, m, ← p, ← q, ← d) (pair refl (pair l refl))
+    given b s n r then count e m p q d l k =
+        rw (fit, ← bytes-same b e, m, ← p, ← q, ← d)
+        (pair refl (pair (l ∙ put-fit 384 (r .y ++ (r .u ++ r .v)) out out-384) (k ∙ put-fit 1 (r .clipped ∷ []) clipped clipped-1)))

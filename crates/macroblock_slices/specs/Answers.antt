@@ -2,7 +2,7 @@
 -- write, and a count of the sums that were below 0 or above 255. Another length is reply 1, and nothing is written; every other refusal writes zeros.
 use Prim.Native.Nat.{ℕ}
 use mathlib.Core.Bool.{Bool, true}
-use mathlib.Core.List.{List, [], _∷_, _++_}
+use mathlib.Core.List.{List, [], _∷_}
 use lib.Dec.{eqb}
 use lib.IntN.{ℤ}
 use lib.ListN.{length, getD, replicate}
@@ -10,8 +10,7 @@ use Rattle.lists.specs.Lists.{pick, both}
 use Rattle.slices.specs.Copies.{sized, orZeros, _beside_}
 use Rattle.macroblock.specs.Reply.{wrongLength, unknownByte}
 use Rattle.record_bytes.specs.Bytes.{marksKnown, recordOf}
-use Rattle.reconstruct.specs.declared.ReconstructedMb.{ReconstructedMb}
-use Rattle.drawing.specs.Drawn.{drawn}
+use Rattle.drawing.specs.Drawn.{planesOf, drawn}
 
 unfoldable pub subModesFit : ℕ → Bool
 subModesFit subs = pick (eqb subs 16) true (eqb subs 0)
@@ -19,10 +18,6 @@ subModesFit subs = pick (eqb subs 16) true (eqb subs 0)
 unfoldable pub lengthsFit : ℕ → ℕ → ℕ → ℕ → ℕ → ℕ → Bool
 lengthsFit modes subs edges coeffs out clipped =
     both (eqb modes 3) (both (subModesFit subs) (both (eqb edges 81) (both (eqb coeffs 400) (both (eqb out 384) (eqb clipped 1)))))
-
--- the planes one after another
-unfoldable pub planesOf : ReconstructedMb → List ℕ
-planesOf r = r .y ++ (r .u ++ r .v)
 
 unfoldable pub mbAnswer : List ℕ → List ℕ → List ℕ → List ℤ → List ℕ → List ℕ → ℕ × (List ℕ × List ℕ)
 mbAnswer modes subs edges coeffs out clipped =

@@ -1,7 +1,5 @@
 // One macroblock over lent slices; `edges` is its neighbour record as 81 bytes.
 ghost use mathlib.Core.Path.{_≡_};
-ghost use mathlib.Core.List.{_++_, _∷_, []};
-ghost use lib.ListN.{length};
 ghost use Rattle.slices.specs.Copies.{_beside_};
 ghost use Rattle.macroblock_slices.specs.Answers.{subModesFit, lengthsFit, mbAnswer};
 use macroblock::reply;
@@ -43,27 +41,10 @@ fn lengths_fit(
     clipped == 1
 }
 
-// Y, U and V, one after another.
-fn lay(out: &mut [u8], y: [u8; 256], u: [u8; 64], v: [u8; 64])
-    requires { ⌜ length (now out) ≡ 384 ⌝ }
-    ensures { λ _. ⌜ now (out .exit) ≡ y ++ (u ++ v) ⌝ }
-{
-    slices::put_luma(&mut out[0..256], y);
-    slices::put_chroma(&mut out[256..320], u);
-    slices::put_chroma(&mut out[320..384], v);
-}
-
-fn put_count(to: &mut [u64], n: u64)
-    requires { ⌜ length (now to) ≡ 1 ⌝ }
-    ensures { λ _. ⌜ now (to .exit) ≡ n ∷ [] ⌝ }
-{
-    to[0] = n;
-}
-
 // The macroblock that the bytes stand for, 384 pixels: Y, U, V; and into clipped, a slice of 1, how many sums were below 0 or
-// above 255. Refused, in this order: a slice of another length (reply 1,
-// nothing written), a mode, skip or mark byte that says nothing, in luma mode B a sub-block byte too (8, zeros written),
-// luma mode B without sub-block modes (4, zeros written); the count is 0 then.
+// above 255. Refused, in this order: a slice of another length (reply 1, nothing written), a mode, skip or mark byte that says
+// nothing, in luma mode B a sub-block byte too (8, zeros written), luma mode B without sub-block modes (4, zeros written); the
+// count is 0 then.
 pub fn macroblock(
     modes: &[u8],
     sub_modes: &[u8],
@@ -89,7 +70,7 @@ pub fn macroblock(
     let bytes = slices::record_of(edges);
     if !record_bytes::marks_known(bytes) {
         slices::clear(out);
-        put_count(clipped, 0);
+        slices::put_count(clipped, 0);
         return reply::UNKNOWN_BYTE;
     }
     let subs = slices::sixteen(sub_modes);
@@ -109,7 +90,7 @@ pub fn macroblock(
     let y = drawn.y;
     let u = drawn.u;
     let v = drawn.v;
-    lay(out, y, u, v);
-    put_count(clipped, drawn.clipped as u64);
+    slices::put_planes(out, y, u, v);
+    slices::put_count(clipped, drawn.clipped as u64);
     drawn.reply
 }

@@ -1,7 +1,7 @@
 -- A plane with its count, by what the loops leave. Assumes nothing.
 use Prim.Native.Nat.{ℕ}
 use mathlib.Core.Bool.{true, false}
-use mathlib.Core.Path.{_≡_, refl, sym, ap, _∙_}
+use mathlib.Core.Path.{_≡_, refl, _∙_}
 use mathlib.Core.List.{List}
 use lib.IntN.{ℤ}
 use lib.ListN.{length, take}

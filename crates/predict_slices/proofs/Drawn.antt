@@ -1,14 +1,14 @@
 -- The answers, by the outcome of the tests. Assumes nothing.
-use mathlib.Core.Path.{_≡_, refl, sym, ap, _∙_}
-use mathlib.Core.Bool.{Bool, true, false}
+use mathlib.Core.Path.{_≡_, refl, ap, _∙_}
+use mathlib.Core.Bool.{true, false}
 use mathlib.Core.List.{List}
 use Prim.Native.Nat.{ℕ}
 use borrow.Author.Tests.{eq-eqb, ne-eqb, eqb-true}
 use lib.Dec.{eqb}
 use lib.ListN.{length, replicate}
 use Rattle.lists.specs.Lists.{both}
-use Rattle.lists.proofs.Tests.{both-says, T-true}
-use Rattle.slices.specs.Copies.{sized, orZeros, putIn, cleared, _beside_}
+use Rattle.lists.proofs.Tests.{right-holds}
+use Rattle.slices.specs.Copies.{orZeros, putIn, cleared, _beside_}
 use Rattle.slices.proofs.Copied.{put-fit, or-zeros-fit}
 use Rattle.slices.proofs.Pairs.{pair}
 use Rattle.mode_bytes.specs.Says.{yReply, yMode, uvReply, uvMode, bReply, bMode}
@@ -20,9 +20,6 @@ use Rattle.intra_predict.specs.Luma.{predictedY}
 use Rattle.rfc6386.specs.Edges.{predictUv}
 use Rattle.rfc6386.specs.Subblock.{predictB}
 use Rattle.predict_slices.specs.Answers.{edgeFits, lengthsFit, lumaAnswer, chromaAnswer, subBlockAnswer}
-
-right-holds : (a b : Bool) → both a b ≡ true → b ≡ true
-right-holds a b e = T-true b (both-says a b e .1)
 
 -- the block has its length
 fit-block : (n block above left out : ℕ) → lengthsFit n block above left out ≡ true → out ≡ block

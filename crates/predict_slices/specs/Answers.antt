@@ -2,7 +2,7 @@
 -- 16x16 and 8x8 predictors that is empty is absent. A slice of another length than it must have is reply 1, and nothing is written; a number that is
 -- no mode's is reply 8, and zeros are written.
 use Prim.Native.Nat.{ℕ}
-use mathlib.Core.Bool.{Bool, true, false}
+use mathlib.Core.Bool.{Bool, true}
 use mathlib.Core.List.{List}
 use lib.Dec.{eqb}
 use lib.ListN.{length, replicate}

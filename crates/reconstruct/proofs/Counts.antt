@@ -1,25 +1,21 @@
 -- What changes no count: the bytes of an absent edge, the coefficients of a skipped macroblock, and a Y block's own first coefficient in the walker of the
 -- 16x16 modes. Assumes nothing.
-use Prim.Native.Nat.{ℕ, zero, suc, _+_, _*_, _/_, _%_, _<_, _≤_}
-use mathlib.Core.Path.{_≡_, refl, ap, _∙_}
+use Prim.Native.Nat.{ℕ, _+_, _*_, _/_, _%_, _<_, _≤_}
+use mathlib.Core.Path.{_≡_, refl, ap}
 use mathlib.Core.Bool.{Bool, true, false}
 use mathlib.Core.List.{List}
 use native.Mathlib.Omega.{arith}
-use lib.IntN.{ℤ, pos}
-use lib.ListN.{getD, take}
-use lib.Seq.{getD-take}
+use lib.IntN.{ℤ}
+use lib.ListN.{getD}
 use Rattle.macroblock.specs.declared.modes.IntraYMode.{IntraYMode}
 use Rattle.macroblock.specs.declared.modes.IntraUvMode.{IntraUvMode}
 use Rattle.macroblock.specs.declared.modes.IntraBmode.{IntraBmode}
 use Rattle.macroblock.specs.declared.neighbors.MbNeighbors.{MbNeighbors}
-use Rattle.rfc6386.specs.Dct.{residue}
-use Rattle.rfc6386.specs.Wht.{iwht}
-use Rattle.rfc6386.specs.Walk.{blockAt, seeded, yPrediction, uPrediction, vPrediction, startOf}
+use Rattle.rfc6386.specs.Walk.{blockAt, seeded, yPrediction, uPrediction, vPrediction}
 use Rattle.rfc6386.proofs.Absent.{SameEdges, yPrediction-same, uPrediction-same, vPrediction-same, start-same}
-use Rattle.rfc6386.proofs.Unused.{SameButDc}
-use Rattle.rfc6386.proofs.Planes.{iwht-ext}
+use Rattle.rfc6386.proofs.Unused.{SameButDc, seeded-same}
 use Rattle.rfc6386.proofs.DctBlocks.{residue-ext}
-use Rattle.clipping.specs.Clipped.{total, over, blocksClipped, planeClipped, yWholeClipped, uClipped, vClipped, yPartsClipped}
+use Rattle.clipping.specs.Clipped.{over, blocksClipped, planeClipped, yWholeClipped, uClipped, vClipped, yPartsClipped}
 use Rattle.clipping.proofs.Total.{total-ext}
 
 -- ---- the bytes of an absent edge
@@ -51,23 +47,15 @@ plane-counts n false p x y e =
     (residue-ext (x (n / 4 * (r / 4) + c / 4)) (y (n / 4 * (r / 4) + c / 4)) (λ i h. e (n / 4 * (r / 4) + c / 4) i h) (r % 4) (c % 4))
 
 -- ---- the own first coefficient of a Y block
-module _ (c d : List ℤ) (e : SameButDc c d) where
-  seeded-same : (b k : ℕ) → k < 16 → seeded c b k ≡ seeded d b k
-  unfolding seeded
-  seeded-same b zero l =
-      ap (λ (z : List ℤ). getD z b (pos 0))
-      (iwht-ext (take 16 c) (take 16 d) λ k h. getD-take 16 c k (pos 0) h ∙ e k (λ a p q. omega arith) ∙ rw (getD-take 16 d k (pos 0) h))
-  seeded-same b (suc k) l = e (16 + 16 * b + suc k) (λ a p q. omega arith)
+module _ (c d : List ℤ) (e : SameButDc c d) (n : MbNeighbors) (skip : Bool) where
+  pub y-own-dc : (mode : IntraYMode) → yWholeClipped mode skip n c ≡ yWholeClipped mode skip n d
+  unfolding yWholeClipped
+  y-own-dc mode = plane-counts 16 skip (yPrediction mode n) (seeded c) (seeded d) (seeded-same c d e)
 
-  module _ (n : MbNeighbors) (skip : Bool) where
-    pub y-own-dc : (mode : IntraYMode) → yWholeClipped mode skip n c ≡ yWholeClipped mode skip n d
-    unfolding yWholeClipped
-    y-own-dc mode = plane-counts 16 skip (yPrediction mode n) (seeded c) (seeded d) seeded-same
+  pub u-own-dc : (mode : IntraUvMode) (base : ℕ) → 272 ≤ base → uClipped mode skip n c base ≡ uClipped mode skip n d base
+  unfolding uClipped
+  u-own-dc mode base h = plane-counts 8 skip (uPrediction mode n) (blockAt c base) (blockAt d base) (λ b k l. e (base + 16 * b + k) (λ a p q. omega arith))
 
-    pub u-own-dc : (mode : IntraUvMode) (base : ℕ) → 272 ≤ base → uClipped mode skip n c base ≡ uClipped mode skip n d base
-    unfolding uClipped
-    u-own-dc mode base h = plane-counts 8 skip (uPrediction mode n) (blockAt c base) (blockAt d base) (λ b k l. e (base + 16 * b + k) (λ a p q. omega arith))
-
-    pub v-own-dc : (mode : IntraUvMode) (base : ℕ) → 272 ≤ base → vClipped mode skip n c base ≡ vClipped mode skip n d base
-    unfolding vClipped
-    v-own-dc mode base h = plane-counts 8 skip (vPrediction mode n) (blockAt c base) (blockAt d base) (λ b k l. e (base + 16 * b + k) (λ a p q. omega arith))
+  pub v-own-dc : (mode : IntraUvMode) (base : ℕ) → 272 ≤ base → vClipped mode skip n c base ≡ vClipped mode skip n d base
+  unfolding vClipped
+  v-own-dc mode base h = plane-counts 8 skip (vPrediction mode n) (blockAt c base) (blockAt d base) (λ b k l. e (base + 16 * b + k) (λ a p q. omega arith))

@@ -1,13 +1,13 @@
 -- Reading the bytes of a record gives the record back, where its edges have their lengths. Assumes nothing.
-use Prim.Native.Nat.{ℕ, zero, suc, _+_}
+use Prim.Native.Nat.{ℕ}
 use mathlib.Core.Bool.{Bool, true, false}
 use mathlib.Core.Path.{_≡_, refl, sym, _∙_}
 use mathlib.Core.List.{List}
 use native.Mathlib.Nat.{le-of-eq, zero-add}
 use lib.Dec.{eqb}
-use lib.ListN.{length, take}
+use lib.ListN.{length}
 use lib.Seq.{take-all}
-use Rattle.lists.specs.Lists.{table, pick}
+use Rattle.lists.specs.Lists.{table}
 use Rattle.lists.proofs.Table.{table-take}
 use Rattle.macroblock.specs.declared.neighbors.MbNeighbors.{MbNeighbors}
 use Rattle.record_bytes.specs.Bytes.{part, markOf, marksOf, lumaBytes, chromaBytes, recordOf, bytesOf}

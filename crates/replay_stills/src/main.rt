@@ -1,8 +1,12 @@
 // Draws the stills of data/, which real encoders made, and holds each plane to that of their decoders before the loop
-// filter. Prints a line for each: its file, its sizes in pixels and in macroblocks, the checksums of its two files, and
-// whether all pixels are equal. oracle/README.md says which stills they are.
+// filter. Then draws the macroblocks of each once more, loose on a shelf, and once more with one of them damaged. Prints a
+// line for each still: its file, its sizes in pixels and in macroblocks, the checksums of its two files, and whether all
+// pixels are equal, all loose macroblocks, and all but the damaged one, which is refused. oracle/README.md says which stills
+// they are.
 mod checksum;
+mod loose;
 mod numbers;
+mod scattered;
 mod still_file;
 
 fn main() {

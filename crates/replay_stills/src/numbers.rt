@@ -11,15 +11,21 @@ fn signed(x: u8) -> i32 {
     x as i32
 }
 
-fn after(at: usize, n: usize) -> usize {
+pub fn after(at: usize, n: usize) -> usize {
     std::num::wrapping_add_usize(at, n)
 }
 
-fn byte(bytes: &[u8], at: usize) -> u8 {
+pub fn byte(bytes: &[u8], at: usize) -> u8 {
     if at < bytes.len() { bytes[at] } else { 0 }
 }
 
-// The bytes from one place to another, and the first elements of a slice; all of it where it is shorter.
+pub fn put_byte(bytes: &mut [u8], at: usize, x: u8) {
+    if at < bytes.len() {
+        bytes[at] = x;
+    }
+}
+
+// The elements from one place to another; all of them where the slice is shorter.
 pub fn part<'a>(bytes: &'a [u8], from: usize, to: usize) -> &'a [u8] {
     if from > to {
         return bytes;
@@ -30,18 +36,34 @@ pub fn part<'a>(bytes: &'a [u8], from: usize, to: usize) -> &'a [u8] {
     &bytes[from..to]
 }
 
-pub fn first_shorts<'a>(numbers: &'a [i16], n: usize) -> &'a [i16] {
-    if n > numbers.len() {
-        return numbers;
-    }
-    &numbers[0..n]
-}
-
-pub fn first_to_write<'a>(bytes: &'a mut [u8], n: usize) -> &'a mut [u8] {
-    if n > bytes.len() {
+pub fn part_to_write<'a>(bytes: &'a mut [u8], from: usize, to: usize) -> &'a mut [u8] {
+    if from > to {
         return bytes;
     }
-    &mut bytes[0..n]
+    if to > bytes.len() {
+        return bytes;
+    }
+    &mut bytes[from..to]
+}
+
+pub fn shorts_part<'a>(numbers: &'a [i16], from: usize, to: usize) -> &'a [i16] {
+    if from > to {
+        return numbers;
+    }
+    if to > numbers.len() {
+        return numbers;
+    }
+    &numbers[from..to]
+}
+
+pub fn shorts_part_to_write<'a>(numbers: &'a mut [i16], from: usize, to: usize) -> &'a mut [i16] {
+    if from > to {
+        return numbers;
+    }
+    if to > numbers.len() {
+        return numbers;
+    }
+    &mut numbers[from..to]
 }
 
 fn two(bytes: &[u8], at: usize) -> usize
@@ -51,7 +73,9 @@ fn two(bytes: &[u8], at: usize) -> usize
 }
 
 // Four bytes.
-pub fn size(bytes: &[u8], at: usize) -> usize {
+pub fn size(bytes: &[u8], at: usize) -> usize
+    ensures { λ r. ⌜ r ≤ 4294967295 ⌝ }
+{
     two(bytes, at) + 65536 * two(bytes, after(at, 2))
 }
 

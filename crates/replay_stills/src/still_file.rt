@@ -1,10 +1,11 @@
 // A still file of at most 22 macroblocks, and the planes beside it.
 ghost use Prim.Native.Nat.{_≤_};
 use crate::checksum;
-use crate::numbers::first_shorts;
-use crate::numbers::first_to_write;
+use crate::loose;
 use crate::numbers::part;
+use crate::numbers::part_to_write;
 use crate::numbers::shorts;
+use crate::numbers::shorts_part;
 use crate::numbers::size;
 
 // Reads a file, and answers its length.
@@ -37,24 +38,30 @@ fn macroblocks(still: usize, planes: usize) -> usize
 }
 
 // Draws the still of n macroblocks, and answers as the library does.
-fn draw(still: &[u8], n: usize, y: &mut [u8], u: &mut [u8], v: &mut [u8]) -> u64
+fn draw(
+    still: &[u8],
+    n: usize,
+    y: &mut [u8],
+    u: &mut [u8],
+    v: &mut [u8],
+    clipped: &mut [u64],
+) -> u64
     requires { ⌜ n ≤ 22 ⌝ }
 {
     let sub_modes = 24 + 3 * n;
     let coefficients = 24 + 19 * n;
     let mut coeffs = [0i16; 8800];
     shorts(still, coefficients, &mut coeffs);
-    let mut clipped = [0u64; 1];
     still_numbers::still_alone(
         size(still, 16),
         size(still, 20),
         part(still, 24, sub_modes),
         part(still, sub_modes, coefficients),
-        first_shorts(&coeffs, 400 * n),
-        first_to_write(y, 256 * n),
-        first_to_write(u, 64 * n),
-        first_to_write(v, 64 * n),
-        &mut clipped,
+        shorts_part(&coeffs, 0, 400 * n),
+        part_to_write(y, 0, 256 * n),
+        part_to_write(u, 0, 64 * n),
+        part_to_write(v, 0, 64 * n),
+        clipped,
     )
 }
 
@@ -74,8 +81,16 @@ fn same_planes(planes: &[u8], n: usize, y: &[u8], u: &[u8], v: &[u8]) -> bool
     check::same(part(v, 0, chroma), part(planes, second, second + chroma))
 }
 
-// Whether the still, drawn, has these planes.
-fn agrees(still: &[u8], planes: &[u8], n: usize) -> bool
+// Whether the still, drawn into y, u and v, has these planes.
+fn agrees(
+    still: &[u8],
+    planes: &[u8],
+    n: usize,
+    y: &mut [u8],
+    u: &mut [u8],
+    v: &mut [u8],
+    clipped: &mut [u64],
+) -> bool
     requires { ⌜ n ≤ 22 ⌝ }
 {
     if n == 0 {
@@ -84,13 +99,10 @@ fn agrees(still: &[u8], planes: &[u8], n: usize) -> bool
     if !check::same(part(still, 0, 8), b"ZSTILL1\n") {
         return false;
     }
-    let mut y = [0u8; 5632];
-    let mut u = [0u8; 1408];
-    let mut v = [0u8; 1408];
-    if draw(still, n, &mut y, &mut u, &mut v) != 0 {
+    if draw(still, n, y, u, v, clipped) != 0 {
         return false;
     }
-    same_planes(planes, n, &y, &u, &v)
+    same_planes(planes, n, y, u, v)
 }
 
 fn print(text: &[u8], n: usize) {
@@ -112,12 +124,36 @@ fn print_sizes(still: &[u8]) {
     print(b" by ", size(still, 20));
 }
 
-fn print_verdict(agrees: bool) {
+fn print_verdict(text: &[u8], agrees: bool) {
+    io::write_all(1, text);
     if agrees {
-        io::write_all(1, b": equal\n");
+        io::write_all(1, b"equal");
     } else {
-        io::write_all(1, b": DIFFERENT\n");
+        io::write_all(1, b"DIFFERENT");
     }
+}
+
+// Draws the still of n macroblocks, then its macroblocks by themselves.
+fn print_verdicts(still: &[u8], planes: &[u8], n: usize)
+    requires { ⌜ n ≤ 22 ⌝ }
+{
+    let mut y = [0u8; 5632];
+    let mut u = [0u8; 1408];
+    let mut v = [0u8; 1408];
+    let mut clipped = [0u64; 1];
+    let drawn = agrees(still, planes, n, &mut y, &mut u, &mut v, &mut clipped);
+    print_verdict(b": ", drawn);
+    let loose = loose::judge(
+        still,
+        n,
+        part(&y, 0, 256 * n),
+        part(&u, 0, 64 * n),
+        part(&v, 0, 64 * n),
+        clipped[0],
+    );
+    print_verdict(b"; loose: ", loose.equal);
+    print_verdict(b"; one damaged: ", loose.damaged_equal);
+    io::write_all(1, b"\n");
 }
 
 fn replay_into(name: &[u8], planes_name: &[u8], still: &mut [u8], planes: &mut [u8]) {
@@ -128,7 +164,7 @@ fn replay_into(name: &[u8], planes_name: &[u8], still: &mut [u8], planes: &mut [
     print_checksum(part(still, 0, still_length));
     print_checksum(part(planes, 0, planes_length));
     let n = macroblocks(still_length, planes_length);
-    print_verdict(agrees(still, planes, n));
+    print_verdicts(still, planes, n);
 }
 
 pub fn replay(name: &[u8], planes_name: &[u8]) {

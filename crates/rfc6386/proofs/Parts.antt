@@ -4,16 +4,15 @@
 --     walked-stays              a pixel of sub-block k at the end of the walk is the one that turn k put
 --     parts-at                  so a luma pixel of sub-block k is the one of turn k
 -- Assumes nothing.
-use Prim.Native.Nat.{ℕ, _+_, _-_, _*_, _/_, _%_, _<_, _≤_}
+use Prim.Native.Nat.{ℕ, _+_, _-_, _*_, _/_, _%_, _<_}
 use mathlib.Core.Path.{_≡_, refl, sym, ap, _∙_}
 use mathlib.Core.Bool.{Bool}
 use mathlib.Core.List.{List}
 use native.Mathlib.Numerals.{add-one}
 use native.Mathlib.Omega.{arith}
-use lib.Dec.{lit<}
 use lib.IntN.{ℤ}
-use lib.ListN.{length, getD, length-set, length-replicate}
-use Rattle.lists.specs.Lists.{turns, store}
+use lib.ListN.{length, getD, length-set}
+use Rattle.lists.specs.Lists.{turns}
 use Rattle.lists.proofs.Turns.{turns-keep}
 use Rattle.lists.proofs.Nested.{turns-add}
 use Rattle.lists.proofs.Rows.{rows-at}

@@ -2,7 +2,7 @@
 -- Assumes nothing.
 use Prim.Native.Nat.{ℕ, zero, suc, _+_, _*_, _/_, _<_, _≤_}
 use mathlib.Core.Path.{_≡_, refl, ap, _∙_}
-use mathlib.Core.Bool.{Bool, true, false}
+use mathlib.Core.Bool.{Bool, true}
 use mathlib.Core.List.{List}
 use native.Mathlib.Omega.{arith}
 use lib.IntN.{ℤ, pos}
@@ -12,7 +12,6 @@ use Rattle.macroblock.specs.declared.modes.IntraYMode.{IntraYMode}
 use Rattle.macroblock.specs.declared.modes.IntraUvMode.{IntraUvMode}
 use Rattle.macroblock.specs.declared.modes.IntraBmode.{IntraBmode}
 use Rattle.macroblock.specs.declared.neighbors.MbNeighbors.{MbNeighbors}
-use Rattle.rfc6386.specs.Wht.{iwht}
 use Rattle.rfc6386.specs.Walk.{blockAt, seeded, plane, yPrediction, uPrediction, vPrediction, yWhole, uPlane, vPlane, subPixels, subBlock, walked, yParts}
 use Rattle.rfc6386.proofs.Planes.{plane-ext, iwht-ext}
 
@@ -39,7 +38,7 @@ abbrev pub SameButDc : List ℤ → List ℤ → Type 0
 SameButDc c d = (j : ℕ) → ((b : ℕ) → b < 16 → j ≡ 16 + 16 * b → ⊥) → getD c j (pos 0) ≡ getD d j (pos 0)
 
 module _ (c d : List ℤ) (e : SameButDc c d) where
-  seeded-same : (b k : ℕ) → k < 16 → seeded c b k ≡ seeded d b k
+  pub seeded-same : (b k : ℕ) → k < 16 → seeded c b k ≡ seeded d b k
   unfolding seeded
   seeded-same b zero l =
       ap (λ (z : List ℤ). getD z b (pos 0))

@@ -4,7 +4,7 @@ use mathlib.Core.Bool.{Bool}
 use mathlib.Core.List.{List}
 use lib.Dec.{leb}
 use lib.IntN.{ℤ, pos, _+ℤ_}
-use lib.ListN.{getD, set, length}
+use lib.ListN.{getD, set}
 use Rattle.whole.specs.Whole.{clamp}
 use Rattle.lists.specs.Lists.{table, turns, both}
 

@@ -2,19 +2,18 @@
 -- copies of one pixel, the last of the sixteen that stand above the row's last macroblock.
 -- Assumes nothing.
 use Prim.Native.Nat.{ℕ, _+_, _-_, _*_, _<_, _≤_}
-use mathlib.Core.Bool.{true}
-use mathlib.Core.Path.{_≡_, sym, ap, _∙_}
+use mathlib.Core.Path.{_≡_, ap, _∙_}
 use mathlib.Core.List.{List}
 use native.Mathlib.Omega.{arith}
-use lib.ListN.{length, getD, take, drop, replicate}
+use lib.ListN.{length, getD, replicate}
 use lib.Seq.{getD-take, getD-drop}
 use borrow.Author.Tests.{lt-ltb, eq-eqb, ne-eqb}
 use Rattle.macroblock.specs.Reply.{done, wrongLength, outsidePicture}
 use Rattle.rfc6386.specs.Picture.{aboveOf}
-use Rattle.picture_limits.proofs.Accepted.{Within, place-true}
+use Rattle.picture_limits.proofs.Accepted.{Within}
 use Rattle.right_pixels.specs.declared.RightPixels.{RightPixels}
-use Rattle.right_pixels.specs.Answers.{rowOk, lastAbove, refused, rightPixels}
-use Rattle.right_pixels.proofs.Accepted.{row-says, row-true, row-false, row-placed, ends}
+use Rattle.right_pixels.specs.Answers.{lastAbove, refused, rightPixels}
+use Rattle.right_pixels.proofs.Accepted.{row-true, row-false, row-placed, ends}
 
 -- the last pixel of the row above is the last of the sixteen above the last macroblock
 pub last-of-sixteen : (y : List ℕ) (w r : ℕ) → 1 ≤ w → 1 ≤ r → getD (aboveOf 16 y w r (w - 1)) 15 0 ≡ lastAbove y w r

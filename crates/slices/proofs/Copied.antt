@@ -1,10 +1,10 @@
 -- A copying loop, and what a copy leaves where the lengths agree or differ. Assumes nothing.
 use mathlib.Core.Path.{_≡_, refl, sym, _∙_}
-use mathlib.Core.Bool.{true, false}
-use mathlib.Core.List.{List, _++_}
+use mathlib.Core.List.{List, [], _∷_, _++_}
 use Prim.Native.Nat.{ℕ}
 use native.Mathlib.Nat.{le-of-eq}
-use lib.ListN.{length, getD, drop, take, replicate}
+use native.Mathlib.Omega.{arith}
+use lib.ListN.{length, getD, set, drop}
 use lib.Seq.{take-all}
 use borrow.Author.Tests.{eq-eqb}
 use Rattle.lists.specs.Lists.{table}
@@ -29,3 +29,9 @@ module _ {A : Type 0} where
   pub copied-fit : (from to : List A) → length to ≡ length from → copied from to ≡ from
   unfolding copied
   copied-fit from to e = rw (eq-eqb (length to) (length from) e) refl
+
+-- a slice of one place
+pub one-set : (l : List ℕ) (n : ℕ) → length l ≡ 1 → set l 0 n ≡ n ∷ []
+one-set [] n e = absurd (omega (arith, e))
+one-set (a ∷ []) n e = refl
+one-set (a ∷ b ∷ l) n e = absurd (omega (arith, e))

@@ -21,6 +21,10 @@ use Rattle.slices.proofs.put_chroma.Reads as put-chroma
 use Rattle.slices.proofs.put_chroma.Kinds as put-chroma-k
 use Rattle.slices.proofs.put_sub_block.Reads as put-sub-block
 use Rattle.slices.proofs.put_sub_block.Kinds as put-sub-block-k
+use Rattle.slices.proofs.put_planes.Reads as put-planes
+use Rattle.slices.proofs.put_planes.Kinds as put-planes-k
+use Rattle.slices.proofs.put_count.Reads as put-count
+use Rattle.slices.proofs.put_count.Kinds as put-count-k
 use Rattle.slices.proofs.put_record.Reads as put-record
 use Rattle.slices.proofs.put_record.Kinds as put-record-k
 use Rattle.slices.proofs.record_of.Reads as record-of
@@ -61,8 +65,14 @@ put-chroma-one κs a x y s t p q = (refl, same p q)
 pub put-sub-block-one : OneAnswerIn 1 put-sub-block-k.ps put-sub-block-k.r put-sub-block.Post (λ κs s. s .0 .now)
 put-sub-block-one κs a x y s t p q = (refl, same p q)
 
-pub put-record-of-one : OneAnswerIn 1 put-record-k.ps put-record-k.r put-record.Post (λ κs s. s .0 .now)
-put-record-of-one κs a x y s t p q = (refl, same p q)
+pub put-record-one : OneAnswerIn 1 put-record-k.ps put-record-k.r put-record.Post (λ κs s. s .0 .now)
+put-record-one κs a x y s t p q = (refl, same p q)
 
 pub record-of-one : OneAnswer 1 record-of-k.ps record-of-k.r record-of.Post
 record-of-one κs a x y s t = same
+
+pub put-planes-one : OneAnswerIn 1 put-planes-k.ps put-planes-k.r put-planes.Post (λ κs s. s .0 .now)
+put-planes-one κs a x y s t p q = (refl, same p q)
+
+pub put-count-one : OneAnswerIn 1 put-count-k.ps put-count-k.r put-count.Post (λ κs s. s .0 .now)
+put-count-one κs a x y s t p q = (refl, same p q)

@@ -1,5 +1,5 @@
 -- A promise of a reply beside what a lent slice holds, `r beside now (out .exit) ≡ answer`, in its two halves. Assumes nothing.
-use mathlib.Core.Path.{_≡_, refl, sym, ap, _∙_}
+use mathlib.Core.Path.{_≡_, sym, ap, _∙_}
 use Rattle.slices.specs.Copies.{_beside_}
 
 module _ {A B : Type 0} where

@@ -1,5 +1,6 @@
 // Copies between lent slices and arrays, for interfaces that are handed slices. Nothing is copied between unequal lengths.
 ghost use mathlib.Core.Path.{_≡_};
+ghost use mathlib.Core.List.{_++_, _∷_, []};
 ghost use lib.ListN.{length};
 ghost use lib.IntN.{pos};
 ghost use Rattle.slices.specs.Copies.{copied, cleared, orZeros, putIn};
@@ -125,4 +126,31 @@ pub fn put_record(to: &mut [u8], block: [u8; 81])
     ensures { λ _. ⌜ now (to .exit) ≡ putIn 81 block (now (to .entry)) ⌝ }
 {
     copy(to, &block);
+}
+
+fn lay(to: &mut [u8], y: [u8; 256], u: [u8; 64], v: [u8; 64])
+    requires { ⌜ length (now to) ≡ 384 ⌝ }
+    ensures { λ _. ⌜ now (to .exit) ≡ y ++ (u ++ v) ⌝ }
+{
+    put_luma(&mut to[0..256], y);
+    put_chroma(&mut to[256..320], u);
+    put_chroma(&mut to[320..384], v);
+}
+
+// Y, U and V of a macroblock, one after another; nothing into a slice of another length than 384.
+pub fn put_planes(to: &mut [u8], y: [u8; 256], u: [u8; 64], v: [u8; 64])
+    ensures { λ _. ⌜ now (to .exit) ≡ putIn 384 (y ++ (u ++ v)) (now (to .entry)) ⌝ }
+{
+    if to.len() == 384 {
+        lay(to, y, u, v);
+    }
+}
+
+// A count; nothing into a slice of another length than 1.
+pub fn put_count(to: &mut [u64], n: u64)
+    ensures { λ _. ⌜ now (to .exit) ≡ putIn 1 (n ∷ []) (now (to .entry)) ⌝ }
+{
+    if to.len() == 1 {
+        to[0] = n;
+    }
 }

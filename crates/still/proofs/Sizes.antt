@@ -1,14 +1,13 @@
 -- A picture's size, and the lengths that go with it. Assumes nothing.
-use Prim.Native.Nat.{ℕ, zero, _+_, _-_, _*_, _/_, _<_, _≤_}
-use mathlib.Core.Bool.{Bool, true, false}
-use mathlib.Core.Path.{_≡_, refl, sym, ap, _∙_}
+use Prim.Native.Nat.{ℕ, _*_, _/_, _<_, _≤_}
+use mathlib.Core.Bool.{true}
+use mathlib.Core.Path.{_≡_}
 use native.Mathlib.Nat.{mul-le-mul, mul-comm, div-lt-iff-lt-mul}
-use native.Mathlib.Omega.{arith}
 use borrow.Author.Tests.{eqb-true}
 use lib.Dec.{eqb}
 use Rattle.lists.specs.Lists.{both}
-use Rattle.lists.proofs.Tests.{both-says, T-true}
-use Rattle.rfc6386.specs.Picture.{placeOk, sizesOk}
+use Rattle.lists.proofs.Tests.{left-holds, right-holds}
+use Rattle.rfc6386.specs.Picture.{sizesOk}
 use Rattle.picture_limits.proofs.Accepted.{Within, place-says}
 use Rattle.still.specs.Answers.{sizeOk, lengthsOk}
 use Rattle.still.specs.Fits.{Fits}
@@ -24,12 +23,6 @@ at-most a b = mul-le-mul a b
 -- the row of a macroblock
 pub row-within : (k w h : ℕ) → 0 < w → k < w * h → k / w < h
 row-within k w h p q = div-lt-iff-lt-mul p .1 (rw (mul-comm h w) q)
-
-left-holds : (a b : Bool) → both a b ≡ true → a ≡ true
-left-holds a b e = T-true a (both-says a b e .0)
-
-right-holds : (a b : Bool) → both a b ≡ true → b ≡ true
-right-holds a b e = T-true b (both-says a b e .1)
 
 pub fits : (w h modes subs coeffs y u v : ℕ) → sizeOk w h ≡ true → lengthsOk w h modes subs coeffs y u v ≡ true → Fits w h modes subs coeffs
 unfolding lengthsOk

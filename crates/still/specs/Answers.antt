@@ -7,14 +7,15 @@ use lib.Dec.{eqb}
 use lib.IntN.{ℤ}
 use lib.ListN.{length}
 use Rattle.lists.specs.Lists.{pick, both}
+use Rattle.slices.specs.Copies.{_beside_}
 use Rattle.macroblock.specs.Reply.{wrongLength, outsidePicture}
 use Rattle.rfc6386.specs.Picture.{placeOk, sizesOk}
 use Rattle.still.specs.declared.StillReply.{StillReply}
 use Rattle.still.specs.Picture.{Canvas, canvas, picture, pictureClipped, rightGiven, rightRead}
 
--- a reply and the planes that it leaves
-abbrev pub told : StillReply → List ℕ → List ℕ → List ℕ → Canvas
-told r y u v = canvas (r .reply) (r .index) y u v
+-- a reply and the planes that it leaves, beside its count
+abbrev pub told : StillReply → List ℕ → List ℕ → List ℕ → Canvas × ℕ
+told r y u v = canvas (r .reply) (r .index) y u v beside r .clipped
 
 -- a refusal before anything is drawn
 abbrev pub refusal : ℕ → StillReply
@@ -29,35 +30,38 @@ unfoldable pub lengthsOk : ℕ → ℕ → ℕ → ℕ → ℕ → ℕ → ℕ �
 lengthsOk w h modes subs coeffs y u v =
     both (eqb modes (3 * (w * h))) (both (eqb subs (16 * (w * h))) (both (eqb coeffs (400 * (w * h))) (sizesOk y u v w h)))
 
+-- every slice of a still that comes alone; of one with right-hand pixels, four for each macroblock row after the first
+abbrev pub aloneFits : ℕ → ℕ → List ℕ → List ℕ → List ℤ → List ℕ → List ℕ → List ℕ → Bool
+aloneFits w h modes subs coeffs y u v = lengthsOk w h (length modes) (length subs) (length coeffs) (length y) (length u) (length v)
+
+abbrev pub stillFits : ℕ → ℕ → List ℕ → List ℕ → List ℤ → List ℕ → List ℕ → List ℕ → List ℕ → Bool
+stillFits w h modes subs coeffs right y u v = both (aloneFits w h modes subs coeffs y u v) (eqb (length right) (4 * (h - 1)))
+
+-- what is drawn, or by its number what is refused
+abbrev pub tested : {A : Type 0} → ℕ → ℕ → Bool → A → (ℕ → A) → A
+tested w h fit drawn refused = pick (sizeOk w h) (pick fit drawn (refused wrongLength)) (refused outsidePicture)
+
+-- ---- the planes
 unfoldable pub stillAnswer : ℕ → ℕ → List ℕ → List ℕ → List ℤ → List ℕ → List ℕ → List ℕ → List ℕ → Canvas
 stillAnswer w h modes subs coeffs right y u v =
-    pick (sizeOk w h)
-    (pick (both (lengthsOk w h (length modes) (length subs) (length coeffs) (length y) (length u) (length v)) (eqb (length right) (4 * (h - 1))))
-    (picture w h modes subs coeffs (rightGiven right) y u v)
-    (canvas wrongLength 0 y u v))
-    (canvas outsidePicture 0 y u v)
+    tested w h (stillFits w h modes subs coeffs right y u v) (picture w h modes subs coeffs (rightGiven right) y u v) λ number. canvas number 0 y u v
 
 unfoldable pub aloneAnswer : ℕ → ℕ → List ℕ → List ℕ → List ℤ → List ℕ → List ℕ → List ℕ → Canvas
 aloneAnswer w h modes subs coeffs y u v =
-    pick (sizeOk w h)
-    (pick (lengthsOk w h (length modes) (length subs) (length coeffs) (length y) (length u) (length v))
-    (picture w h modes subs coeffs (rightRead w h) y u v)
-    (canvas wrongLength 0 y u v))
-    (canvas outsidePicture 0 y u v)
+    tested w h (aloneFits w h modes subs coeffs y u v) (picture w h modes subs coeffs (rightRead w h) y u v) λ number. canvas number 0 y u v
 
--- ---- and how many sums were below 0 or above 255, of the finished macroblocks
+-- ---- how many sums were below 0 or above 255, of the finished macroblocks
 unfoldable pub stillClipped : ℕ → ℕ → List ℕ → List ℕ → List ℤ → List ℕ → List ℕ → List ℕ → List ℕ → ℕ
 stillClipped w h modes subs coeffs right y u v =
-    pick (sizeOk w h)
-    (pick (both (lengthsOk w h (length modes) (length subs) (length coeffs) (length y) (length u) (length v)) (eqb (length right) (4 * (h - 1))))
-    (pictureClipped w h modes subs coeffs (rightGiven right) y u v)
-    0)
-    0
+    tested w h (stillFits w h modes subs coeffs right y u v) (pictureClipped w h modes subs coeffs (rightGiven right) y u v) λ number. 0
 
 unfoldable pub aloneClipped : ℕ → ℕ → List ℕ → List ℕ → List ℤ → List ℕ → List ℕ → List ℕ → ℕ
 aloneClipped w h modes subs coeffs y u v =
-    pick (sizeOk w h)
-    (pick (lengthsOk w h (length modes) (length subs) (length coeffs) (length y) (length u) (length v))
-    (pictureClipped w h modes subs coeffs (rightRead w h) y u v)
-    0)
-    0
+    tested w h (aloneFits w h modes subs coeffs y u v) (pictureClipped w h modes subs coeffs (rightRead w h) y u v) λ number. 0
+
+-- ---- both
+abbrev pub stillTold : ℕ → ℕ → List ℕ → List ℕ → List ℤ → List ℕ → List ℕ → List ℕ → List ℕ → Canvas × ℕ
+stillTold w h modes subs coeffs right y u v = stillAnswer w h modes subs coeffs right y u v beside stillClipped w h modes subs coeffs right y u v
+
+abbrev pub aloneTold : ℕ → ℕ → List ℕ → List ℕ → List ℤ → List ℕ → List ℕ → List ℕ → Canvas × ℕ
+aloneTold w h modes subs coeffs y u v = aloneAnswer w h modes subs coeffs y u v beside aloneClipped w h modes subs coeffs y u v

@@ -1,11 +1,13 @@
 -- A still: the macroblocks of a picture drawn one after another, in raster order, into its three planes. The first macroblock that is refused ends the
 -- drawing: its reply and its raster index are kept, with the planes as the finished ones left them.
 use Prim.Native.Nat.{ℕ, _+_, _-_, _*_, _/_, _%_}
+use mathlib.Core.Bool.{Bool}
 use mathlib.Core.List.{List}
 use lib.Dec.{eqb}
 use lib.IntN.{ℤ}
 use lib.ListN.{getD, take, drop, replicate}
 use Rattle.lists.specs.Lists.{turns, pick}
+use Rattle.slices.specs.Copies.{_beside_}
 use Rattle.macroblock.specs.Reply.{done}
 use Rattle.clipping.specs.Clipped.{total}
 use Rattle.canvas.specs.Drawn.{drawnInto, clippedInto}
@@ -60,6 +62,13 @@ module _ (w h : ℕ) (modes subs : List ℕ) (coeffs : List ℤ) (right : ℕ �
   unfoldable pub pictureClipped : List ℕ → List ℕ → List ℕ → ℕ
   pictureClipped y u v = firstClipped (w * h) y u v
 
+  -- ---- both: of macroblock k; of the picture
+  abbrev pub toldAt : ℕ → List ℕ → List ℕ → List ℕ → (ℕ × (List ℕ × (List ℕ × List ℕ))) × ℕ
+  toldAt k y u v = drawnAt k y u v beside countAt k y u v
+
+  abbrev pub drawing : List ℕ → List ℕ → List ℕ → Canvas × ℕ
+  drawing y u v = picture y u v beside pictureClipped y u v
+
 -- ---- where the right-hand pixels come from
 -- given: four for each macroblock row after the first
 unfoldable pub rightAt : List ℕ → ℕ → List ℕ
@@ -71,3 +80,7 @@ rightGiven right r y = rightAt right r
 -- read from the luma plane as it stands, by the rule of `right_pixels`
 unfoldable pub rightRead : ℕ → ℕ → ℕ → List ℕ → List ℕ
 rightRead w h r y = rightPixels y w h r .pixels
+
+-- read for a still that comes alone, else given
+unfoldable pub rightFrom : ℕ → ℕ → Bool → List ℕ → ℕ → List ℕ → List ℕ
+rightFrom w h alone right = pick alone (rightRead w h) (rightGiven right)

@@ -1,12 +1,12 @@
 // A whole still (RFC 6386, 12 and 14): its macroblocks in raster order, each from the finished pixels around it.
 ghost use mathlib.Core.Path.{_≡_};
 ghost use Prim.Native.Nat.{_+_, _*_, _<_, _≤_};
-ghost use mathlib.Core.Bool.{true};
+ghost use mathlib.Core.Bool.{true, false};
 ghost use lib.ListN.{length};
 ghost use Rattle.slices.specs.Copies.{_beside_};
-ghost use Rattle.still.specs.Picture.{drawnAt, picture, countAt, pictureClipped, rightAt, rightGiven, rightRead};
+ghost use Rattle.still.specs.Picture.{toldAt, drawing, rightAt, rightFrom};
 ghost use Rattle.still.specs.Fits.{Fits};
-ghost use Rattle.still.specs.Answers.{sizeOk, lengthsOk, told, refusal, stillAnswer, aloneAnswer, stillClipped, aloneClipped};
+ghost use Rattle.still.specs.Answers.{sizeOk, lengthsOk, told, refusal, stillTold, aloneTold};
 use canvas::DrawnMb;
 use macroblock::reply;
 
@@ -30,6 +30,18 @@ fn right_of(right: &[u8], row: usize) -> [u8; 4]
     slices::four(&right[at..at + 4])
 }
 
+// The same for a still that comes alone, read from the luma plane as it stands; else as given.
+fn right_from(cols: usize, rows: usize, alone: bool, right: &[u8], y: &[u8], row: usize) -> [u8; 4]
+    requires { ⌜ (alone ≡ false → 4 * row ≤ length (now right)) ⌝ }
+    ensures { λ r. ⌜ r ≡ rightFrom cols rows alone (now (right .entry)) row (now (y .entry)) ⌝ }
+{
+    if alone {
+        let read = right_pixels::right_pixels(y, cols, rows, row);
+        return read.pixels;
+    }
+    right_of(right, row)
+}
+
 // Macroblock k of the picture.
 fn draw_at(
     k: usize,
@@ -44,10 +56,9 @@ fn draw_at(
     v: &mut [u8],
 ) -> DrawnMb
     requires { ⌜ (0 < cols) × (3 * k + 3 ≤ length (now modes)) × (16 * k + 16 ≤ length (now «sub_modes»)) × (400 * k + 400 ≤ length (now coeffs)) ⌝ }
-    ensures { λ r. ⌜ ((r .reply beside now (y .exit) beside now (u .exit) beside now (v .exit))
-        ≡ drawnAt cols rows (now (modes .entry)) (now («sub_modes» .entry)) (now (coeffs .entry)) (λ r y. right) k (now (y .entry)) (now (u .entry)) (now (v .entry)))
-        × (r .clipped
-        ≡ countAt cols rows (now (modes .entry)) (now («sub_modes» .entry)) (now (coeffs .entry)) (λ r y. right) k (now (y .entry)) (now (u .entry)) (now (v .entry))) ⌝ }
+    ensures { λ r. ⌜ ((r .reply beside now (y .exit) beside now (u .exit) beside now (v .exit)) beside r .clipped)
+        ≡ toldAt cols rows (now (modes .entry)) (now («sub_modes» .entry)) (now (coeffs .entry)) (λ r y. right) k
+        (now (y .entry)) (now (u .entry)) (now (v .entry)) ⌝ }
 {
     let luma = modes[3 * k];
     let chroma = modes[3 * k + 1];
@@ -71,71 +82,29 @@ fn draw_at(
     )
 }
 
-// The macroblocks of a picture that fits its slices, the right-hand pixels given.
-fn draw_given(
+// The macroblocks of a picture that fits its slices, the right-hand pixels read for a still that comes alone, else given.
+fn draw_all(
     cols: usize,
     rows: usize,
     modes: &[u8],
     sub_modes: &[u8],
     coeffs: &[i16],
+    alone: bool,
     right: &[u8],
     y: &mut [u8],
     u: &mut [u8],
     v: &mut [u8],
 ) -> StillReply
-    requires { ⌜ Fits cols rows (length (now modes)) (length (now «sub_modes»)) (length (now coeffs)) × (4 * rows ≡ length (now right) + 4) ⌝ }
-    ensures { λ r. ⌜ (told r (now (y .exit)) (now (u .exit)) (now (v .exit))
-        ≡ picture cols rows (now (modes .entry)) (now («sub_modes» .entry)) (now (coeffs .entry)) (rightGiven (now (right .entry)))
-        (now (y .entry)) (now (u .entry)) (now (v .entry)))
-        × (r .clipped
-        ≡ pictureClipped cols rows (now (modes .entry)) (now («sub_modes» .entry)) (now (coeffs .entry)) (rightGiven (now (right .entry)))
-        (now (y .entry)) (now (u .entry)) (now (v .entry))) ⌝ }
+    requires { ⌜ Fits cols rows (length (now modes)) (length (now «sub_modes»)) (length (now coeffs))
+        × (alone ≡ false → 4 * rows ≡ length (now right) + 4) ⌝ }
+    ensures { λ r. ⌜ told r (now (y .exit)) (now (u .exit)) (now (v .exit))
+        ≡ drawing cols rows (now (modes .entry)) (now («sub_modes» .entry)) (now (coeffs .entry)) (rightFrom cols rows alone (now (right .entry)))
+        (now (y .entry)) (now (u .entry)) (now (v .entry)) ⌝ }
 {
     let n = cols * rows;
     let mut clipped = 0u64;
     for k in 0..n {
-        let pixels = right_of(right, k / cols);
-        let drawn = draw_at(k, cols, rows, modes, sub_modes, coeffs, pixels, y, u, v);
-        clipped = clipped + drawn.clipped as u64;
-        if drawn.reply != reply::DONE {
-            return StillReply {
-                reply: drawn.reply,
-                index: k,
-                clipped,
-            };
-        }
-    }
-    StillReply {
-        reply: reply::DONE,
-        index: 0,
-        clipped,
-    }
-}
-
-// The same, the right-hand pixels read from the luma plane as it stands.
-fn draw_alone(
-    cols: usize,
-    rows: usize,
-    modes: &[u8],
-    sub_modes: &[u8],
-    coeffs: &[i16],
-    y: &mut [u8],
-    u: &mut [u8],
-    v: &mut [u8],
-) -> StillReply
-    requires { ⌜ Fits cols rows (length (now modes)) (length (now «sub_modes»)) (length (now coeffs)) ⌝ }
-    ensures { λ r. ⌜ (told r (now (y .exit)) (now (u .exit)) (now (v .exit))
-        ≡ picture cols rows (now (modes .entry)) (now («sub_modes» .entry)) (now (coeffs .entry)) (rightRead cols rows)
-        (now (y .entry)) (now (u .entry)) (now (v .entry)))
-        × (r .clipped
-        ≡ pictureClipped cols rows (now (modes .entry)) (now («sub_modes» .entry)) (now (coeffs .entry)) (rightRead cols rows)
-        (now (y .entry)) (now (u .entry)) (now (v .entry))) ⌝ }
-{
-    let n = cols * rows;
-    let mut clipped = 0u64;
-    for k in 0..n {
-        let read = right_pixels::right_pixels(y, cols, rows, k / cols);
-        let pixels = read.pixels;
+        let pixels = right_from(cols, rows, alone, right, y, k / cols);
         let drawn = draw_at(k, cols, rows, modes, sub_modes, coeffs, pixels, y, u, v);
         clipped = clipped + drawn.clipped as u64;
         if drawn.reply != reply::DONE {
@@ -211,12 +180,9 @@ pub fn still(
     u: &mut [u8],
     v: &mut [u8],
 ) -> StillReply
-    ensures { λ r. ⌜ (told r (now (y .exit)) (now (u .exit)) (now (v .exit))
-        ≡ stillAnswer cols rows (now (modes .entry)) (now («sub_modes» .entry)) (now (coeffs .entry)) (now (right .entry))
-        (now (y .entry)) (now (u .entry)) (now (v .entry)))
-        × (r .clipped
-        ≡ stillClipped cols rows (now (modes .entry)) (now («sub_modes» .entry)) (now (coeffs .entry)) (now (right .entry))
-        (now (y .entry)) (now (u .entry)) (now (v .entry))) ⌝ }
+    ensures { λ r. ⌜ told r (now (y .exit)) (now (u .exit)) (now (v .exit))
+        ≡ stillTold cols rows (now (modes .entry)) (now («sub_modes» .entry)) (now (coeffs .entry)) (now (right .entry))
+        (now (y .entry)) (now (u .entry)) (now (v .entry)) ⌝ }
 {
     if !size_ok(cols, rows) {
         return refused(reply::OUTSIDE_PICTURE);
@@ -237,7 +203,7 @@ pub fn still(
     if right.len() != 4 * (rows - 1) {
         return refused(reply::WRONG_LENGTH);
     }
-    draw_given(cols, rows, modes, sub_modes, coeffs, right, y, u, v)
+    draw_all(cols, rows, modes, sub_modes, coeffs, false, right, y, u, v)
 }
 
 // The same for a still that comes without right-hand pixels: they are four copies of the last pixel of the row above.
@@ -251,12 +217,9 @@ pub fn still_alone(
     u: &mut [u8],
     v: &mut [u8],
 ) -> StillReply
-    ensures { λ r. ⌜ (told r (now (y .exit)) (now (u .exit)) (now (v .exit))
-        ≡ aloneAnswer cols rows (now (modes .entry)) (now («sub_modes» .entry)) (now (coeffs .entry))
-        (now (y .entry)) (now (u .entry)) (now (v .entry)))
-        × (r .clipped
-        ≡ aloneClipped cols rows (now (modes .entry)) (now («sub_modes» .entry)) (now (coeffs .entry))
-        (now (y .entry)) (now (u .entry)) (now (v .entry))) ⌝ }
+    ensures { λ r. ⌜ told r (now (y .exit)) (now (u .exit)) (now (v .exit))
+        ≡ aloneTold cols rows (now (modes .entry)) (now («sub_modes» .entry)) (now (coeffs .entry))
+        (now (y .entry)) (now (u .entry)) (now (v .entry)) ⌝ }
 {
     if !size_ok(cols, rows) {
         return refused(reply::OUTSIDE_PICTURE);
@@ -274,5 +237,6 @@ pub fn still_alone(
     if !fit {
         return refused(reply::WRONG_LENGTH);
     }
-    draw_alone(cols, rows, modes, sub_modes, coeffs, y, u, v)
+    let none = [0u8; 4];
+    draw_all(cols, rows, modes, sub_modes, coeffs, true, &none, y, u, v)
 }

@@ -19,7 +19,7 @@ use Rattle.right_pixels.specs.Answers.{lastAbove, rightPixels}
 use Rattle.right_pixels.specs.declared.RightPixels.{RightPixels}
 use Rattle.right_pixels.proofs.Copies.{last-of-sixteen, row-refused, copies}
 use Rattle.still.specs.Picture.{Canvas, drawnAt, turn, first, picture, rightAt, rightGiven, rightRead}
-use Rattle.still.specs.Answers.{sizeOk, lengthsOk, stillAnswer, aloneAnswer}
+use Rattle.still.specs.Answers.{sizeOk, aloneFits, stillAnswer, aloneAnswer}
 use Rattle.still.proofs.Sizes.{size-says, row-within}
 use Rattle.still_laws.specs.Words.{inY, rightsOf}
 use Rattle.still_laws.proofs.Digits.{pixel-from, rows-rise}
@@ -125,7 +125,7 @@ module _ (w h : ℕ) (modes subs : List ℕ) (coeffs : List ℤ) (y u v : List �
   alone = aloneAnswer w h modes subs coeffs y u v
 
   abbrev lengths : Bool
-  lengths = lengthsOk w h (length modes) (length subs) (length coeffs) (length y) (length u) (length v)
+  lengths = aloneFits w h modes subs coeffs y u v
 
   by-tests : (a b : Bool) → sizeOk w h ≡ a → lengths ≡ b → alone ≡ stillAnswer w h modes subs coeffs (rightsOf w h (alone .y)) y u v
   unfolding aloneAnswer stillAnswer

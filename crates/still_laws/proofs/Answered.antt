@@ -17,11 +17,11 @@ use Rattle.rfc6386.specs.Picture.{sizesOk}
 use Rattle.picture_limits.proofs.Accepted.{Within, Lengths, sizes-say}
 use Rattle.still.specs.Picture.{Canvas, canvas, picture, rightGiven, rightRead}
 use Rattle.still.proofs.Sizes.{size-says}
-use Rattle.still.specs.Answers.{sizeOk, lengthsOk, stillAnswer, aloneAnswer}
+use Rattle.still.specs.Answers.{sizeOk, lengthsOk, aloneFits, stillFits, stillAnswer, aloneAnswer}
 
 module _ (w h : ℕ) (modes subs : List ℕ) (coeffs : List ℤ) (y u v : List ℕ) where
   abbrev lengths : Bool
-  lengths = lengthsOk w h (length modes) (length subs) (length coeffs) (length y) (length u) (length v)
+  lengths = aloneFits w h modes subs coeffs y u v
 
   pub accepted-lengths : lengths ≡ true → Lengths (length y) (length u) (length v) w h
   unfolding lengthsOk
@@ -46,7 +46,7 @@ module _ (w h : ℕ) (modes subs : List ℕ) (coeffs : List ℤ) (y u v : List �
   pub still-answered : (right : List ℕ) → Answered (rightGiven right) (stillAnswer w h modes subs coeffs right y u v)
   unfolding stillAnswer
   still-answered right =
-      by-tests (rightGiven right) (sizeOk w h) (both lengths (eqb (length right) (4 * (h - 1)))) refl
+      by-tests (rightGiven right) (sizeOk w h) (stillFits w h modes subs coeffs right y u v) refl
       (λ e. T-true _ (both-says lengths (eqb (length right) (4 * (h - 1))) e .0))
 
   pub alone-answered : Answered (rightRead w h) (aloneAnswer w h modes subs coeffs y u v)

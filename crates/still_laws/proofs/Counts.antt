@@ -1,5 +1,5 @@
 -- At most 384 sums of a macroblock are counted, and no count of a still passes 64 bits. Assumes nothing.
-use Prim.Native.Nat.{ℕ, _+_, _-_, _*_, _≤_, _<_}
+use Prim.Native.Nat.{ℕ, _*_, _≤_}
 use mathlib.Core.Bool.{Bool, true, false}
 use mathlib.Core.Path.{_≡_, refl}
 use mathlib.Core.List.{List}
@@ -8,11 +8,10 @@ use native.Mathlib.Omega.{arith}
 use lib.Dec.{eqb}
 use lib.IntN.{ℤ}
 use lib.ListN.{length, drop}
-use Rattle.lists.specs.Lists.{pick, both}
+use Rattle.lists.specs.Lists.{pick}
 use Rattle.macroblock.specs.declared.modes.IntraBmode.{IntraBmode}
 use Rattle.macroblock.specs.declared.modes.MbModes.{MbModes}
 use Rattle.macroblock.specs.declared.neighbors.MbNeighbors.{MbNeighbors}
-use Rattle.clipping.specs.Clipped.{total}
 use Rattle.clipping.proofs.Total.{total-≤}
 use Rattle.clipping.proofs.Bounds.{macroblock-≤, macroblock-B-≤}
 use Rattle.reconstruct.specs.declared.ReconstructedMb.{ReconstructedMb}
@@ -23,7 +22,7 @@ use Rattle.gathering.specs.Answers.{gathered}
 use Rattle.drawing.specs.Drawn.{drawn, drawnIn, drawnB, modesKnown, modesOf, subModesOf}
 use Rattle.canvas.specs.Drawn.{made, clippedInto}
 use Rattle.still.specs.Picture.{Canvas, first, countAt, countIn, firstClipped, pictureClipped, rightGiven, rightRead}
-use Rattle.still.specs.Answers.{sizeOk, lengthsOk, stillClipped, aloneClipped}
+use Rattle.still.specs.Answers.{sizeOk, aloneFits, stillFits, stillClipped, aloneClipped}
 use Rattle.still.proofs.Sizes.{size-says, at-most}
 
 -- ---- one of two that are small is small
@@ -88,9 +87,9 @@ module _ (w h : ℕ) (modes subs : List ℕ) (coeffs : List ℤ) (right : ℕ �
   unfolding pictureClipped firstClipped
   picture-≤ y u v = total-≤ 384 (w * h) _ λ k l. count-≤ k (first w h modes subs coeffs right k y u v)
 
-tested : (a b : Bool) (p : ℕ) → (a ≡ true → p ≤ 402653184) → pick a (pick b p 0) 0 ≤ 402653184
-tested true b p h = number 402653184 b p 0 (h refl) (omega arith)
-tested false b p h = omega arith
+tested-≤ : (a b : Bool) (p : ℕ) → (a ≡ true → p ≤ 402653184) → pick a (pick b p 0) 0 ≤ 402653184
+tested-≤ true b p h = number 402653184 b p 0 (h refl) (omega arith)
+tested-≤ false b p h = omega arith
 
 module _ (w h : ℕ) (modes subs : List ℕ) (coeffs : List ℤ) where
   few : sizeOk w h ≡ true → w * h * 384 ≤ 402653184
@@ -100,14 +99,11 @@ module _ (w h : ℕ) (modes subs : List ℕ) (coeffs : List ℤ) where
   pub still-clipped-≤ : (right y u v : List ℕ) → stillClipped w h modes subs coeffs right y u v ≤ 402653184
   unfolding stillClipped
   still-clipped-≤ right y u v =
-      tested (sizeOk w h)
-      (both (lengthsOk w h (length modes) (length subs) (length coeffs) (length y) (length u) (length v)) (eqb (length right) (4 * (h - 1))))
-      (pictureClipped w h modes subs coeffs (rightGiven right) y u v)
+      tested-≤ (sizeOk w h) (stillFits w h modes subs coeffs right y u v) (pictureClipped w h modes subs coeffs (rightGiven right) y u v)
       (λ e. le-trans (picture-≤ w h modes subs coeffs (rightGiven right) y u v) (few e))
 
   pub alone-clipped-≤ : (y u v : List ℕ) → aloneClipped w h modes subs coeffs y u v ≤ 402653184
   unfolding aloneClipped
   alone-clipped-≤ y u v =
-      tested (sizeOk w h) (lengthsOk w h (length modes) (length subs) (length coeffs) (length y) (length u) (length v))
-      (pictureClipped w h modes subs coeffs (rightRead w h) y u v)
+      tested-≤ (sizeOk w h) (aloneFits w h modes subs coeffs y u v) (pictureClipped w h modes subs coeffs (rightRead w h) y u v)
       (λ e. le-trans (picture-≤ w h modes subs coeffs (rightRead w h) y u v) (few e))

@@ -9,15 +9,14 @@ use mathlib.Core.Path.{_≡_, refl, ap, _∙_}
 use mathlib.Core.List.{List}
 use native.Mathlib.Omega.{arith}
 use borrow.Author.Tests.{eq-eqb}
-use lib.Dec.{eqb}
 use lib.IntN.{ℤ}
 use lib.ListN.{length, drop, length-drop}
 use lib.Seq.{length-take-le}
-use Rattle.lists.specs.Lists.{turns, pick, both}
+use Rattle.lists.specs.Lists.{turns, pick}
 use Rattle.macroblock.specs.Reply.{done, wrongLength, outsidePicture, unknownByte}
 use Rattle.picture_limits.proofs.Accepted.{Within, Lengths}
 use Rattle.still.specs.Picture.{Canvas, canvas, first, picture, rightGiven, rightRead}
-use Rattle.still.specs.Answers.{sizeOk, lengthsOk, stillAnswer, aloneAnswer}
+use Rattle.still.specs.Answers.{sizeOk, aloneFits, stillFits, stillAnswer, aloneAnswer}
 use Rattle.still.proofs.Sizes.{size-says, fits}
 use Rattle.still_laws.specs.Words.{coeffsAt, bytesKnown}
 use Rattle.still_laws.proofs.First.{first-step, first-refused, index-none, step-index}
@@ -71,7 +70,7 @@ module _ (w h : ℕ) (modes subs : List ℕ) (coeffs : List ℤ) (right : ℕ �
 -- ---- the two calls, by their tests
 module _ (w h : ℕ) (modes subs : List ℕ) (coeffs : List ℤ) (y u v : List ℕ) where
   abbrev lengths : Bool
-  lengths = lengthsOk w h (length modes) (length subs) (length coeffs) (length y) (length u) (length v)
+  lengths = aloneFits w h modes subs coeffs y u v
 
   -- refused before anything is drawn
   pub still-size : (given : List ℕ) → sizeOk w h ≡ false → stillAnswer w h modes subs coeffs given y u v ≡ canvas outsidePicture 0 y u v
@@ -83,7 +82,7 @@ module _ (w h : ℕ) (modes subs : List ℕ) (coeffs : List ℤ) (y u v : List �
   alone-size e = rw e
 
   module _ (size : sizeOk w h ≡ true) where
-    pub still-length : (given : List ℕ) → both lengths (eqb (length given) (4 * (h - 1))) ≡ false
+    pub still-length : (given : List ℕ) → stillFits w h modes subs coeffs given y u v ≡ false
         → stillAnswer w h modes subs coeffs given y u v ≡ canvas wrongLength 0 y u v
     unfolding stillAnswer
     still-length given e = rw (size, e)

@@ -1,18 +1,19 @@
 -- The raster index of a refusal is at most 2^20, so that the number fits 64 bits. Assumes nothing.
-use Prim.Native.Nat.{ℕ, zero, suc, _+_, _-_, _*_, _≤_}
+use Prim.Native.Nat.{ℕ, zero, suc, _+_, _*_, _≤_}
 use mathlib.Core.Bool.{Bool, true, false}
-use mathlib.Core.Path.{_≡_, refl, sym, ap, _∙_}
+use mathlib.Core.Path.{_≡_, refl, ap}
 use mathlib.Core.List.{List, [], _∷_}
-use native.Mathlib.Nat.{le-trans, le-refl}
+use native.Mathlib.Nat.{le-trans}
 use native.Mathlib.Omega.{arith}
 use lib.Dec.{eqb}
 use lib.IntN.{ℤ}
-use lib.ListN.{length, set}
-use Rattle.lists.specs.Lists.{turns, pick, both}
-use Rattle.slices.specs.Copies.{_beside_}
+use lib.ListN.{length}
+use Rattle.lists.specs.Lists.{turns, pick}
+use Rattle.slices.specs.Copies.{putIn, _beside_}
+use Rattle.slices.proofs.Copied.{put-fit}
 use Rattle.still.specs.declared.StillReply.{StillReply}
 use Rattle.still.specs.Picture.{Canvas, canvas, drawnAt, turn, first, picture, rightGiven, rightRead}
-use Rattle.still.specs.Answers.{told, sizeOk, lengthsOk, stillAnswer, aloneAnswer}
+use Rattle.still.specs.Answers.{told, sizeOk, aloneFits, stillFits, stillAnswer, aloneAnswer}
 use Rattle.still.proofs.Sizes.{size-says, at-most}
 use Rattle.still_numbers.specs.Numbers.{numbered}
 
@@ -36,11 +37,11 @@ module _ (w h : ℕ) (modes subs : List ℕ) (coeffs : List ℤ) (right : ℕ �
   picture-index y u v = turns-index (w * h) (canvas 0 0 y u v) refl
 
 -- a canvas behind two tests
-tested : (a b : Bool) (p : Canvas) (j k : ℕ) (y u v : List ℕ) → (a ≡ true → p .index ≤ 1048576)
+tested-index : (a b : Bool) (p : Canvas) (j k : ℕ) (y u v : List ℕ) → (a ≡ true → p .index ≤ 1048576)
     → pick a (pick b p (canvas j 0 y u v)) (canvas k 0 y u v) .index ≤ 1048576
-tested true true p j k y u v h = h refl
-tested true false p j k y u v h = omega arith
-tested false b p j k y u v h = omega arith
+tested-index true true p j k y u v h = h refl
+tested-index true false p j k y u v h = omega arith
+tested-index false b p j k y u v h = omega arith
 
 module _ (w h : ℕ) (modes subs : List ℕ) (coeffs : List ℤ) where
   few : sizeOk w h ≡ true → w * h ≤ 1048576
@@ -49,30 +50,20 @@ module _ (w h : ℕ) (modes subs : List ℕ) (coeffs : List ℤ) where
   pub still-index : (right y u v : List ℕ) → stillAnswer w h modes subs coeffs right y u v .index ≤ 1048576
   unfolding stillAnswer
   still-index right y u v =
-      tested (sizeOk w h)
-      (both (lengthsOk w h (length modes) (length subs) (length coeffs) (length y) (length u) (length v)) (eqb (length right) (4 * (h - 1))))
-      (picture w h modes subs coeffs (rightGiven right) y u v) 1 7 y u v
+      tested-index (sizeOk w h) (stillFits w h modes subs coeffs right y u v) (picture w h modes subs coeffs (rightGiven right) y u v) 1 7 y u v
       (λ e. le-trans (picture-index w h modes subs coeffs (rightGiven right) y u v) (few e))
 
   pub alone-index : (y u v : List ℕ) → aloneAnswer w h modes subs coeffs y u v .index ≤ 1048576
   unfolding aloneAnswer
   alone-index y u v =
-      tested (sizeOk w h) (lengthsOk w h (length modes) (length subs) (length coeffs) (length y) (length u) (length v))
-      (picture w h modes subs coeffs (rightRead w h) y u v) 1 7 y u v
+      tested-index (sizeOk w h) (aloneFits w h modes subs coeffs y u v) (picture w h modes subs coeffs (rightRead w h) y u v) 1 7 y u v
       (λ e. le-trans (picture-index w h modes subs coeffs (rightRead w h) y u v) (few e))
 
 -- what is told, as a number
-pub counted : (r : StillReply) (y u v l : List ℕ) (d : Canvas) (k n : ℕ) → told r y u v ≡ d → k ≡ r .index * 256 + r .reply → l ≡ r .clipped ∷ [] → r .clipped ≡ n
-    → (k beside y beside u beside v beside l) ≡ numbered d n
+pub counted : (r : StillReply) (y u v l clipped : List ℕ) (z : Canvas × ℕ) (k : ℕ) → length clipped ≡ 1 → told r y u v ≡ z
+    → k ≡ r .index * 256 + r .reply → l ≡ putIn 1 (r .clipped ∷ []) clipped → (k beside y beside u beside v beside l) ≡ numbered z
 unfolding numbered
-counted r y u v l d k n e i f g =
-    rw (i, f, g) (ap (λ (d : Canvas). (d .index * 256 + d .reply) beside d .y beside d .u beside d .v beside n ∷ []) e)
+counted r y u v l clipped z k one e i f = rw (i, f, put-fit 1 (r .clipped ∷ []) clipped one) (ap numbered e)
 
-pub index-of : (r : StillReply) (y u v : List ℕ) (d : Canvas) → told r y u v ≡ d → d .index ≤ 1048576 → r .index ≤ 1048576
-index-of r y u v d e h = rw (ap (λ (d : Canvas). d .index) e) h
-
--- a count stored into a slice of one
-pub one-set : (l : List ℕ) (n : ℕ) → length l ≡ 1 → set l 0 n ≡ n ∷ []
-one-set [] n e = absurd (omega (arith, e))
-one-set (a ∷ []) n e = refl
-one-set (a ∷ b ∷ l) n e = absurd (omega (arith, e))
+pub index-of : (r : StillReply) (y u v : List ℕ) (z : Canvas × ℕ) → told r y u v ≡ z → z .0 .index ≤ 1048576 → r .index ≤ 1048576
+index-of r y u v z e h = rw (ap (λ (z : Canvas × ℕ). z .0 .index) e) h

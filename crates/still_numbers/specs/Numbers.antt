@@ -7,20 +7,18 @@ use Rattle.lists.specs.Lists.{pick}
 use Rattle.slices.specs.Copies.{sized, _beside_}
 use Rattle.macroblock.specs.Reply.{wrongLength, outsidePicture}
 use Rattle.still.specs.Picture.{Canvas}
-use Rattle.still.specs.Answers.{sizeOk, stillAnswer, aloneAnswer, stillClipped, aloneClipped}
+use Rattle.still.specs.Answers.{sizeOk, stillTold, aloneTold}
 
-unfoldable pub numbered : Canvas → ℕ → ℕ × (List ℕ × (List ℕ × (List ℕ × List ℕ)))
-numbered d n = (d .index * 256 + d .reply) beside d .y beside d .u beside d .v beside n ∷ []
+unfoldable pub numbered : Canvas × ℕ → ℕ × (List ℕ × (List ℕ × (List ℕ × List ℕ)))
+numbered t = (t .0 .index * 256 + t .0 .reply) beside t .0 .y beside t .0 .u beside t .0 .v beside t .1 ∷ []
 
 unfoldable pub early : ℕ → ℕ → ℕ
 early w h = pick (sizeOk w h) wrongLength outsidePicture
 
 unfoldable pub stillNumber : ℕ → ℕ → List ℕ → List ℕ → List ℤ → List ℕ → List ℕ → List ℕ → List ℕ → List ℕ → ℕ × (List ℕ × (List ℕ × (List ℕ × List ℕ)))
 stillNumber w h modes subs coeffs right y u v clipped =
-    pick (sized 1 clipped) (numbered (stillAnswer w h modes subs coeffs right y u v) (stillClipped w h modes subs coeffs right y u v))
-    (early w h beside y beside u beside v beside clipped)
+    pick (sized 1 clipped) (numbered (stillTold w h modes subs coeffs right y u v)) (early w h beside y beside u beside v beside clipped)
 
 unfoldable pub aloneNumber : ℕ → ℕ → List ℕ → List ℕ → List ℤ → List ℕ → List ℕ → List ℕ → List ℕ → ℕ × (List ℕ × (List ℕ × (List ℕ × List ℕ)))
 aloneNumber w h modes subs coeffs y u v clipped =
-    pick (sized 1 clipped) (numbered (aloneAnswer w h modes subs coeffs y u v) (aloneClipped w h modes subs coeffs y u v))
-    (early w h beside y beside u beside v beside clipped)
+    pick (sized 1 clipped) (numbered (aloneTold w h modes subs coeffs y u v)) (early w h beside y beside u beside v beside clipped)

@@ -1,8 +1,6 @@
 // The still calls with their answer as one number: the raster index times 256, plus the reply.
 ghost use mathlib.Core.Path.{_≡_};
 ghost use Prim.Native.Nat.{_+_, _*_, _≤_};
-ghost use mathlib.Core.List.{_∷_, []};
-ghost use lib.ListN.{length};
 ghost use Rattle.slices.specs.Copies.{_beside_};
 ghost use Rattle.still_numbers.specs.Numbers.{early, stillNumber, aloneNumber};
 use still::StillReply;
@@ -23,13 +21,6 @@ fn early(cols: usize, rows: usize) -> u64
     } else {
         7
     }
-}
-
-fn put_count(to: &mut [u64], n: u64)
-    requires { ⌜ length (now to) ≡ 1 ⌝ }
-    ensures { λ _. ⌜ now (to .exit) ≡ n ∷ [] ⌝ }
-{
-    to[0] = n;
 }
 
 // `still::still`; `clipped` has one place, for the count of the finished macroblocks' sums that were below 0 or above 255.
@@ -53,7 +44,7 @@ pub fn still(
         return early(cols, rows);
     }
     let told = still::still(cols, rows, modes, sub_modes, coeffs, right, y, u, v);
-    put_count(clipped, told.clipped);
+    slices::put_count(clipped, told.clipped);
     number(told)
 }
 
@@ -77,6 +68,6 @@ pub fn still_alone(
         return early(cols, rows);
     }
     let told = still::still_alone(cols, rows, modes, sub_modes, coeffs, y, u, v);
-    put_count(clipped, told.clipped);
+    slices::put_count(clipped, told.clipped);
     number(told)
 }

@@ -1,15 +1,14 @@
 -- The counts of the walk by block rows are those of the walk sub-block by sub-block. Assumes nothing.
-use Prim.Native.Nat.{ℕ, _+_, _*_, _/_, _%_, _<_, _≤_}
-use mathlib.Core.Path.{_≡_, refl, sym, ap, _∙_}
+use Prim.Native.Nat.{ℕ, _+_, _*_, _<_, _≤_}
+use mathlib.Core.Path.{_≡_, sym, ap, _∙_}
 use mathlib.Core.Bool.{true, false}
 use mathlib.Core.List.{List}
 use native.Mathlib.Omega.{arith}
-use lib.IntN.{ℤ, pos}
+use lib.IntN.{ℤ}
 use lib.ListN.{getD}
 use Rattle.lists.specs.Lists.{turns}
 use Rattle.lists.proofs.Nested.{turns-ext, turns-rows, turns-add}
 use Rattle.macroblock.specs.declared.modes.IntraBmode.{IntraBmode}
-use Rattle.rfc6386.specs.Dct.{residue}
 use Rattle.rfc6386.specs.Walk.{blockAt, subPrediction, subBlock, walked}
 use Rattle.clipping.specs.Clipped.{total, over, subClipped, walkedClipped}
 use Rattle.clipping.proofs.Total.{total-≤, total-ext, total-none, total-flat}

@@ -2,7 +2,6 @@
 // of one of four blocks added, which come side by side.
 ghost use mathlib.Core.Path.{_≡_};
 ghost use Prim.Native.Nat.{_<_, _≤_};
-ghost use Rattle.lists.specs.Lists.{turns};
 ghost use Rattle.rfc6386.specs.Walk.{putBlock};
 ghost use Rattle.sub_blocks.specs.Steps.{putRow, sumRow, summedWith, clippedWith};
 use macroblock::MbNeighbors;

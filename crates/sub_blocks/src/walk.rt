@@ -1,7 +1,7 @@
 // The sixteen sub-blocks in raster order. The residues of a block row are made first, four blocks side by side.
 ghost use mathlib.Core.Path.{_≡_};
 ghost use Prim.Native.Nat.{_+_, _*_, _<_};
-ghost use mathlib.Core.Bool.{true, false};
+ghost use mathlib.Core.Bool.{false};
 ghost use Rattle.lists.specs.Lists.{turns};
 ghost use Rattle.rfc6386.specs.Walk.{walked};
 ghost use Rattle.clipping.specs.Clipped.{walkedClipped};

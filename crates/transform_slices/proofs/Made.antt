@@ -1,5 +1,5 @@
 -- What a call made, said of the numbers that the caller was given. Assumes nothing.
-use mathlib.Core.Path.{_≡_, refl, sym, ap, _∙_}
+use mathlib.Core.Path.{_≡_, refl}
 use mathlib.Core.List.{List, [], _∷_}
 use Prim.Native.Nat.{ℕ}
 use native.Mathlib.Omega.{arith}
@@ -22,11 +22,6 @@ pub add-made : {told : AddedInto} {out : List ℕ} {l block : List ℤ} (stride 
     ≡ (addReply (length plane) stride row col beside addedInto block stride row col plane beside addClipped block stride row col plane ∷ [])
 unfolding addedReply
 add-made stride row col plane e m n p = rw (n, m, e, p)
-
-pub one-set : (l : List ℕ) (n : ℕ) → length l ≡ 1 → set l 0 n ≡ n ∷ []
-one-set [] n e = absurd (omega (arith, e))
-one-set (a ∷ []) n e = refl
-one-set (a ∷ b ∷ l) n e = absurd (omega (arith, e))
 
 two-set : (out : List ℤ) (x y : ℤ) → length out ≡ 2 → set (set out 0 x) 1 y ≡ x ∷ y ∷ []
 two-set [] x y e = absurd (omega (arith, e))

@@ -1,8 +1,6 @@
 // The transforms of RFC 6386, section 14, over lent slices. Every function answers with a reply; reply 1, and nothing
 // written, for a slice of another length than it must have.
 ghost use mathlib.Core.Path.{_≡_};
-ghost use mathlib.Core.List.{[], _∷_};
-ghost use lib.ListN.{length};
 ghost use Rattle.slices.specs.Copies.{_beside_};
 ghost use Rattle.transform_slices.specs.Answers.{factorsAnswer, dequantAnswer, whtAnswer, whtDcAnswer, dctAnswer, addIntoAnswer, residueAnswer};
 use macroblock::reply;
@@ -74,13 +72,6 @@ pub fn inverse_dct(input: &[i16], out: &mut [i16]) -> u32
     reply::DONE
 }
 
-fn put_count(to: &mut [u64], n: u64)
-    requires { ⌜ length (now to) ≡ 1 ⌝ }
-    ensures { λ _. ⌜ now (to .exit) ≡ n ∷ [] ⌝ }
-{
-    to[0] = n;
-}
-
 // The inverse DCT of sixteen, added to block (sub_row, sub_col) of a plane. Refused: a block that does not lie in the plane
 // (reply 2). Into clipped, a slice of 1: how many of the sixteen sums were below 0 or above 255; 0 for a refused block.
 pub fn inverse_dct_add_into(
@@ -102,7 +93,7 @@ pub fn inverse_dct_add_into(
     }
     let block = slices::sixteen_numbers(input);
     let told = residue::inverse_dct_4x4_add_into(block, plane, stride, sub_row, sub_col);
-    put_count(clipped, told.clipped as u64);
+    slices::put_count(clipped, told.clipped as u64);
     told.reply
 }
 

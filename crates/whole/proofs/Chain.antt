@@ -1,6 +1,6 @@
 -- A chain of signed operations, followed step by step: what the machine has at each step, the number that it is, and a bound on its magnitude.
 -- Each step of the code is one combinator, so an answer has the shape of the code. The bounds are numerals and are computed. Assumes nothing.
-use Prim.Native.Nat.{ℕ, suc, _+_, _*_, _/_, _^_, _≤_, _<_}
+use Prim.Native.Nat.{ℕ, _+_, _*_, _≤_}
 use native.Mathlib.Nat.{le-trans, lt-of-le-of-lt, mul-le-mul, div-le-self, le-of-eq}
 use native.Mathlib.Omega.{arith}
 use mathlib.Core.Path.{_≡_, refl, ap, _∙_}

@@ -37,6 +37,8 @@ use Rattle.zopredil.proofs.zopredil_gather.Reads as gather
 use Rattle.zopredil.proofs.zopredil_gather.Kinds as gather-k
 use Rattle.zopredil.proofs.zopredil_right_pixels.Reads as right-pixels
 use Rattle.zopredil.proofs.zopredil_right_pixels.Kinds as right-pixels-k
+use Rattle.zopredil.proofs.zopredil_shelf.Reads as shelf
+use Rattle.zopredil.proofs.zopredil_shelf.Kinds as shelf-k
 
 pub y1-factors-one : OneAnswerIn 1 y1-factors-k.ps y1-factors-k.r y1-factors.Post (λ κs s. s .1 .1 .0 .now)
 y1-factors-one κs a x y s t = same-pair
@@ -96,3 +98,7 @@ pub still-alone-one : OneAnswerIn 7 still-alone-k.ps still-alone-k.r still-alone
     (λ κs s.
     (s .1 .1 .1 .1 .1 .0 .now, (s .1 .1 .1 .1 .1 .1 .0 .now, (s .1 .1 .1 .1 .1 .1 .1 .0 .now, s .1 .1 .1 .1 .1 .1 .1 .1 .0 .now))))
 still-alone-one κs a x y s t = same-pair
+
+pub shelf-one : OneAnswerIn 7 shelf-k.ps shelf-k.r shelf.Post {A = List ℕ × (List ℕ × List ℕ)}
+    (λ κs s. (s .1 .1 .1 .1 .0 .now, (s .1 .1 .1 .1 .1 .0 .now, s .1 .1 .1 .1 .1 .1 .0 .now)))
+shelf-one κs a x y s t = same-pair

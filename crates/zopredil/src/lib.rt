@@ -7,6 +7,7 @@ ghost use Rattle.predict_slices.specs.Answers.{lumaAnswer, chromaAnswer, subBlo
 ghost use Rattle.macroblock_slices.specs.Answers.{mbAnswer};
 ghost use Rattle.gather_bytes.specs.Answer.{gatherAnswer};
 ghost use Rattle.right_pixels.specs.Answers.{rightAnswer};
+ghost use Rattle.shelf.specs.Shelf.{bytesAnswer};
 ghost use Rattle.still_numbers.specs.Numbers.{stillNumber, aloneNumber};
 ghost use Rattle.mb_quantiser.specs.Answers.{slicesAnswer};
 
@@ -217,4 +218,21 @@ pub extern "C" fn zopredil_still_alone(
         (now (y .entry)) (now (u .entry)) (now (v .entry)) (now (clipped .entry)) ⌝ }
 {
     still_numbers::still_alone(cols, rows, modes, sub_modes, coeffs, y, u, v, clipped)
+}
+
+#[no_mangle]
+pub extern "C" fn zopredil_shelf(
+    modes: &[u8],
+    records: &[u8],
+    sub_modes: &[u8],
+    coeffs: &[i16],
+    out: &mut [u8],
+    replies: &mut [u8],
+    clipped: &mut [u64],
+) -> u32
+    ensures { λ r. ⌜ (r beside now (out .exit) beside now (replies .exit) beside now (clipped .exit))
+        ≡ bytesAnswer (now (modes .entry)) (now (records .entry)) (now («sub_modes» .entry)) (now (coeffs .entry))
+        (now (out .entry)) (now (replies .entry)) (now (clipped .entry)) ⌝ }
+{
+    shelf::shelf_bytes(modes, records, sub_modes, coeffs, out, replies, clipped)
 }

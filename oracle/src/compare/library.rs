@@ -108,6 +108,35 @@ pub fn macroblock(
     }
 }
 
+pub fn shelf(
+    modes: &[u8],
+    records: &[u8],
+    sub_modes: &[u8],
+    coeffs: &[i16],
+    out: &mut [u8],
+    replies: &mut [u8],
+    clipped: &mut [u64],
+) -> u32 {
+    unsafe {
+        raw::zopredil_shelf(
+            start(modes),
+            modes.len(),
+            start(records),
+            records.len(),
+            start(sub_modes),
+            sub_modes.len(),
+            start(coeffs),
+            coeffs.len(),
+            start_mut(out),
+            out.len(),
+            start_mut(replies),
+            replies.len(),
+            start_mut(clipped),
+            clipped.len(),
+        )
+    }
+}
+
 #[allow(clippy::too_many_arguments)] // the parameters of the C function
 pub fn gather(
     y: &[u8],

@@ -7,6 +7,7 @@ mod lengths;
 mod library;
 mod predictions;
 mod replay;
+mod shelves;
 mod stills;
 mod tally;
 mod transforms;
@@ -60,12 +61,14 @@ fn compare() -> Result<bool, String> {
     gathering::gather(&mut run);
     gathering::right_pixels(&mut run);
     let stills = stills::stills(&mut run);
+    let shelved = shelves::shelves(&mut run);
     lengths::wrong_lengths(&mut run);
     if let Some(file) = words.sample {
         let bytes = std::fs::read(&file).map_err(|why| format!("{file}: {why}"))?;
         replay::sample(&bytes, &mut run);
     }
-    println!("in all {blocks} blocks, {macroblocks} macroblocks and {stills} stills; differing {}", run.differing);
+    print!("in all {blocks} blocks, {macroblocks} macroblocks, {stills} stills and {shelved} macroblocks on shelves; ");
+    println!("differing {}", run.differing);
     Ok(run.differing == 0)
 }
 

@@ -7,32 +7,12 @@ use judge::data;
 use judge::random::Random;
 use judge::still::{still, Planes, Still};
 
-/// Bytes on either side of a lent plane, which no call may touch.
-const BORDER: usize = 16;
+/// Three planes.
+type Cells = crate::tally::Cells<3>;
 
-/// Three planes, one behind another, each between two borders, all bytes without any rule.
-#[derive(Clone, PartialEq)]
-struct Cells {
-    bytes: Vec<u8>,
-    lengths: [usize; 3],
-}
-
-impl Cells {
-    fn new(r: &mut Random, lengths: [usize; 3]) -> Cells {
-        let mut bytes = vec![0; lengths.iter().sum::<usize>() + 6 * BORDER];
-        r.bytes(&mut bytes);
-        Cells { bytes, lengths }
-    }
-
-    fn lend(&mut self) -> Planes<'_> {
-        let mut rest = &mut self.bytes[..];
-        let [y, u, v] = self.lengths.map(|length| {
-            let (cells, after) = std::mem::take(&mut rest).split_at_mut(BORDER + length + BORDER);
-            rest = after;
-            &mut cells[BORDER..BORDER + length]
-        });
-        Planes { y, u, v }
-    }
+fn lend(cells: &mut Cells) -> Planes<'_> {
+    let [y, u, v] = cells.lend();
+    Planes { y, u, v }
 }
 
 /// A still of its own.
@@ -108,7 +88,8 @@ fn both(r: &mut Random, given: Still<'_>, right: Option<&[u8]>, lengths: [usize;
     let mut expected = by_library.clone();
     let mut clipped = Counts::new(counts);
     let (ours, theirs) = clipped.lend(counts);
-    let answers = (library::still(given, right, by_library.lend(), ours), still(given, right, expected.lend(), theirs));
+    let answers =
+        (library::still(given, right, lend(&mut by_library), ours), still(given, right, lend(&mut expected), theirs));
     (answers.1, answers.0 == answers.1 && by_library == expected && clipped.equal())
 }
 

@@ -1,5 +1,7 @@
 //! One comparison, and the counts of many.
 
+use judge::random::Random;
+
 /// A run: how long it is, and what it has found so far.
 pub struct Run {
     pub seed: u64,
@@ -143,5 +145,30 @@ impl Counts {
     /// Does the same stand in both after the calls, and nothing new around them?
     pub fn equal(&self) -> bool {
         self.library[..self.n + 2 * BORDER] == self.expected[..self.n + 2 * BORDER]
+    }
+}
+
+/// Several slices of bytes that one call writes, one behind another, each between two borders, all bytes without any
+/// rule. A clone is lent to what is expected.
+#[derive(Clone, PartialEq)]
+pub struct Cells<const N: usize> {
+    bytes: Vec<u8>,
+    lengths: [usize; N],
+}
+
+impl<const N: usize> Cells<N> {
+    pub fn new(r: &mut Random, lengths: [usize; N]) -> Cells<N> {
+        let mut bytes = vec![0; lengths.iter().sum::<usize>() + 2 * N * BORDER];
+        r.bytes(&mut bytes);
+        Cells { bytes, lengths }
+    }
+
+    pub fn lend(&mut self) -> [&mut [u8]; N] {
+        let mut rest = &mut self.bytes[..];
+        self.lengths.map(|length| {
+            let (cells, after) = std::mem::take(&mut rest).split_at_mut(BORDER + length + BORDER);
+            rest = after;
+            &mut cells[BORDER..BORDER + length]
+        })
     }
 }

@@ -29,7 +29,7 @@ impl Both {
     }
 }
 
-fn describe(modes: &[u8], sub_modes: &[u8], record: &[u8], coeffs: &[i16]) -> String {
+pub fn describe(modes: &[u8], sub_modes: &[u8], record: &[u8], coeffs: &[i16]) -> String {
     format!("modes {modes:?} sub-block modes {sub_modes:?} record {record:?} coefficients {coeffs:?}")
 }
 

@@ -308,6 +308,33 @@ pub fn macroblock(
     }
 }
 
+/// A shelf: the answer to each of its macroblocks by itself, as many as there are replies, and the sum of their counts.
+pub fn shelf(
+    modes: &[u8],
+    records: &[u8],
+    sub_modes: &[u8],
+    coeffs: &[i16],
+    out: &mut [u8],
+    replies: &mut [u8],
+    clipped: &mut [u64],
+) -> u32 {
+    let n = replies.len();
+    let lengths = [modes.len(), records.len(), sub_modes.len(), coeffs.len(), out.len(), clipped.len()];
+    if lengths != [3 * n, 81 * n, 16 * n, 400 * n, 384 * n, 1] {
+        return WRONG_LENGTH;
+    }
+    clipped[0] = 0;
+    for (k, reply) in replies.iter_mut().enumerate() {
+        let (modes, sub_modes) = (&modes[3 * k..][..3], &sub_modes[16 * k..][..16]);
+        let (record, coeffs) = (&records[81 * k..][..81], &coeffs[400 * k..][..400]);
+        let mut count = [0];
+        let answered = macroblock(modes, sub_modes, record, coeffs, &mut out[384 * k..][..384], &mut count);
+        *reply = u8::try_from(answered).expect("a reply is a byte");
+        clipped[0] += count[0];
+    }
+    DONE
+}
+
 // ---- gathering, which the Rust does not have
 
 /// A finished plane with n pixels a side for each macroblock.

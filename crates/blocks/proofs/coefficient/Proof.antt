@@ -5,8 +5,6 @@ use lib.ListN.{List·getD-eq-default}
 use borrow.Author.Needs.{needs}
 use Rattle.blocks.proofs.coefficient.Statement.{statement}
 use Rattle.blocks.proofs.coefficient.Tie as tie
-use Rattle.blocks.proofs.coefficient.Reads as reads
-use Rattle.blocks.proofs.coefficient.Lts as lts
 
 -- src/lib.rt:31:9
 returns : tie.Need-returns

@@ -1,8 +1,6 @@
 use Rattle.rfc6386.specs.Edges.{pixelOr}
 use Rattle.blocks.proofs.pixel_or.Statement.{statement}
 use Rattle.blocks.proofs.pixel_or.Tie as tie
-use Rattle.blocks.proofs.pixel_or.Reads as reads
-use Rattle.blocks.proofs.pixel_or.Lts as lts
 
 -- src/lib.rt:20:1
 returns : tie.Need-returns

@@ -23,8 +23,11 @@ loop-holds : tie.Need-loop-holds Inv-loop μ-loop
 loop-holds c = (omega arith, refl, refl, table-none _ _)
 
 loop-again : tie.Need-loop-again Inv-loop μ-loop
-loop-again c = let l = c .before .before .loop .inv in
-    let a = c .before .before .before .args in (
+loop-again c =
+    let loop = c .before .before in
+    let start = loop .before in
+    let l = loop .loop .inv in
+    let a = start .args in (
       omega arith,
       l .1,
       simp length-set (l .2),

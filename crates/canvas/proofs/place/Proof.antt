@@ -1,8 +1,7 @@
 -- `canvas::place` meets its contract. Assumes nothing.
-use Prim.Native.Nat.{_≤_, _-_, _+_, _*_}
+use Prim.Native.Nat.{_≤_, _-_}
 use mathlib.Core.Path.{_≡_, refl}
 use native.Mathlib.Omega.{arith}
-use borrow.Author.Needs.{needs}
 use lib.ListN.{length}
 use Rattle.lists.specs.Lists.{turns}
 use Rattle.lists.proofs.Turns.{turns-step, turns-done}
@@ -45,17 +44,23 @@ add-place-row-2 : tie.Need-add-place-row-2 Inv-loop μ-loop
 add-place-row-2 c = let k = row-at ((c .before .before .before .before .before) .pre .0) (c .before .before .loop .i) (c .before .loop-test .taken) in omega arith
 
 mul-place-row-5 : tie.Need-mul-place-row-5 Inv-loop μ-loop
-mul-place-row-5 c = let k = block-row ((c .before .before .before .before .before) .args .n) (c .before .before .loop .i) _ ((c .before .before .before .before .before) .pre .1) (c .before .loop-test .taken) in omega arith
+mul-place-row-5 c =
+    let start = c .before .before .before .before .before in
+    let k = block-row (start .args .n) (c .before .before .loop .i) _ (start .pre .1) (c .before .loop-test .taken) in
+    omega arith
 
 place-row-requires : tie.Need-place-row-requires Inv-loop μ-loop
 place-row-requires c κs =
-    let k = row-at ((c .before .before .before .before .before) .pre .0) (c .before .before .loop .i) (c .before .loop-test .taken) in
+    let start = c .before .before .before .before .before in
+    let k = row-at (start .pre .0) (c .before .before .loop .i) (c .before .loop-test .taken) in
     let same = c .before .before .loop .inv .1 .1 in
-    (omega (arith, k .whole, same), block-row ((c .before .before .before .before .before) .args .n) (c .before .before .loop .i) _ ((c .before .before .before .before .before) .pre .1) (c .before .loop-test .taken))
+    (omega (arith, k .whole, same), block-row (start .args .n) (c .before .before .loop .i) _ (start .pre .1) (c .before .loop-test .taken))
 
 loop-again : tie.Need-loop-again Inv-loop μ-loop
 unfolding placedRow pixelAt
-loop-again c = (omega arith, (turns-step _ _ _ _ _ (c .before .before .before .before .before .loop .inv .1 .0) (c .before .before .place-row .ensures), omega (arith, c .before .plane .given, c .before .before .before .before .before .loop .inv .1 .1)))
+loop-again c =
+    let inv = c .before .before .before .before .before .loop .inv in
+    (omega arith, (turns-step _ _ _ _ _ (inv .1 .0) (c .before .before .place-row .ensures), omega (arith, c .before .plane .given, inv .1 .1)))
 
 returns : tie.Need-returns Inv-loop μ-loop
 unfolding placed

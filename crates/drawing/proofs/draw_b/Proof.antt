@@ -1,6 +1,5 @@
 -- `drawing::draw_b` meets its contract. Assumes nothing.
 use mathlib.Core.Path.{sym, _∙_}
-use native.Mathlib.Omega.{arith}
 use borrow.Author.Needs.{needs}
 use borrow.Author.Tests.{not-true, not-false}
 use Rattle.lists.proofs.Parts.{tail-whole}
@@ -15,7 +14,11 @@ returns c = rw (sym (c .before .before .sixteen-within .ensures) ∙ not-true _ 
 returns-2 : tie.Need-returns-2
 unfolding drawnB
 returns-2 c =
-    rw (← tail-whole 16 ((c .before .before .before .before .before) .args .coeffs .now), sym (c .before .before .before .before .sixteen-within .ensures) ∙ not-false _ (c .before .before .before .if1 .left), ← (c .before .before .sub-modes-of .ensures))
+    let sub-modes-of = c .before .before in
+    let if1 = sub-modes-of .before in
+    let sixteen-within = if1 .before in
+    let start = sixteen-within .before in
+    rw (← tail-whole 16 (start .args .coeffs .now), sym (sixteen-within .sixteen-within .ensures) ∙ not-false _ (if1 .if1 .left), ← (sub-modes-of .sub-modes-of .ensures))
     (c .decode-keyframe-mb-bpred .ensures)
 
 pub draw-b-spec : {M : Type 1} → statement M

@@ -23,7 +23,9 @@ loop-holds : tie.Need-loop-holds Inv-loop μ-loop
 loop-holds c = (omega arith, (table-none _ _, refl))
 
 loop-again : tie.Need-loop-again Inv-loop μ-loop
-loop-again c = (omega arith, (table-turn _ _ _ _ _ (c .before .before .loop .inv .1 .0) (c .b-mode .ensures) (omega arith), simp length-set (c .before .before .loop .inv .1 .1)))
+loop-again c =
+    let loop = c .before .before in
+    (omega arith, (table-turn _ _ _ _ _ (loop .loop .inv .1 .0) (c .b-mode .ensures) (omega arith), simp length-set (loop .loop .inv .1 .1)))
 
 returns : tie.Need-returns Inv-loop μ-loop
 unfolding subModesOf

@@ -15,19 +15,29 @@ returns-2 c = rw (eq-eqb _ _ (c .before .before .if1 .left), sym (c .before .sub
 
 returns-3 : tie.Need-returns-3
 unfolding lengthsFit
-returns-3 c = rw (eq-eqb _ _ (c .before .before .before .if1 .left), sym (c .before .before .sub-modes-fit .ensures) ∙ not-false _ (c .before .if2 .left), ne-eqb _ _ (c .if3 .taken)) refl
+returns-3 c =
+    let subs = sym (c .before .before .sub-modes-fit .ensures) ∙ not-false _ (c .before .if2 .left) in
+    rw (eq-eqb _ _ (c .before .before .before .if1 .left), subs, ne-eqb _ _ (c .if3 .taken)) refl
 
 returns-4 : tie.Need-returns-4
 unfolding lengthsFit
-returns-4 c = rw (eq-eqb _ _ (c .before .before .before .before .if1 .left), sym (c .before .before .before .sub-modes-fit .ensures) ∙ not-false _ (c .before .before .if2 .left), eq-eqb _ _ (c .before .if3 .left), ne-eqb _ _ (c .if4 .taken)) refl
+returns-4 c =
+    let subs = sym (c .before .before .before .sub-modes-fit .ensures) ∙ not-false _ (c .before .before .if2 .left) in
+    rw (eq-eqb _ _ (c .before .before .before .before .if1 .left), subs, eq-eqb _ _ (c .before .if3 .left), ne-eqb _ _ (c .if4 .taken)) refl
 
 returns-5 : tie.Need-returns-5
 unfolding lengthsFit
-returns-5 c = rw (eq-eqb _ _ (c .before .before .before .before .before .if1 .left), sym (c .before .before .before .before .sub-modes-fit .ensures) ∙ not-false _ (c .before .before .before .if2 .left), eq-eqb _ _ (c .before .before .if3 .left), eq-eqb _ _ (c .before .if4 .left), ne-eqb _ _ (c .if5 .taken)) refl
+returns-5 c =
+    let subs = sym (c .before .before .before .before .sub-modes-fit .ensures) ∙ not-false _ (c .before .before .before .if2 .left) in
+    let edges = eq-eqb _ _ (c .before .before .if3 .left) in
+    rw (eq-eqb _ _ (c .before .before .before .before .before .if1 .left), subs, edges, eq-eqb _ _ (c .before .if4 .left), ne-eqb _ _ (c .if5 .taken)) refl
 
 returns-6 : tie.Need-returns-6
 unfolding lengthsFit
-returns-6 c = rw (eq-eqb _ _ (c .before .before .before .before .before .if1 .left), sym (c .before .before .before .before .sub-modes-fit .ensures) ∙ not-false _ (c .before .before .before .if2 .left), eq-eqb _ _ (c .before .before .if3 .left), eq-eqb _ _ (c .before .if4 .left), eq-eqb _ _ (c .if5 .left)) refl
+returns-6 c =
+    let subs = sym (c .before .before .before .before .sub-modes-fit .ensures) ∙ not-false _ (c .before .before .before .if2 .left) in
+    let edges = eq-eqb _ _ (c .before .before .if3 .left) in
+    rw (eq-eqb _ _ (c .before .before .before .before .before .if1 .left), subs, edges, eq-eqb _ _ (c .before .if4 .left), eq-eqb _ _ (c .if5 .left)) refl
 
 pub lengths-fit-spec : {M : Type 1} → statement M
 lengths-fit-spec = tie.close (tie.spec returns (λ c κs. tt) returns-2 returns-3 returns-4 returns-5 returns-6)

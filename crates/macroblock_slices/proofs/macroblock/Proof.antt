@@ -3,7 +3,7 @@ use mathlib.Core.Path.{sym, _∙_}
 use native.Mathlib.Omega.{arith}
 use borrow.Author.Needs.{needs}
 use borrow.Author.Tests.{not-true, not-false}
-use Rattle.macroblock_slices.proofs.Answered.{modes-fit, out-fits, clipped-fits, refused, unknown, given}
+use Rattle.macroblock_slices.proofs.Answered.{modes-fit, refused, unknown, given}
 use Rattle.macroblock_slices.proofs.macroblock.Statement.{statement}
 use Rattle.macroblock_slices.proofs.macroblock.Tie as tie
 
@@ -12,36 +12,52 @@ returns c = refused _ _ _ _ _ _ (sym (c .before .lengths-fit .ensures) ∙ not-t
 
 returns-2 : tie.Need-returns-2
 returns-2 c =
-    rw (c .before .before .put-count .ensures)
-    (unknown _ _ _ _ _ _ (sym (c .before .before .before .before .before .before .before .before .before .before .before .before .lengths-fit .ensures) ∙ not-false _ (c .before .before .before .before .before .before .before .before .before .before .before .if1 .left)) _ _ (c .before .before .before .before .before .before .before .before .before .before .record-of .ensures)
-    (sym (c .before .before .before .before .before .before .before .before .before .marks-known .ensures) ∙ not-true _ (c .before .before .before .before .before .before .before .before .if2 .taken)) (c .before .before .before .before .before .before .clear .ensures))
+    let put-count = c .before .before in
+    let clear = put-count .before .before .before .before in
+    let if2 = clear .before .before in
+    let marks-known = if2 .before in
+    let record-of = marks-known .before in
+    let if1 = record-of .before in
+    let lengths-fit = if1 .before in
+    unknown _ _ _ _ _ _ (sym (lengths-fit .lengths-fit .ensures) ∙ not-false _ (if1 .if1 .left)) _ _ _ (record-of .record-of .ensures)
+    (sym (marks-known .marks-known .ensures) ∙ not-true _ (if2 .if2 .taken)) (clear .clear .ensures) (put-count .put-count .ensures)
 
 luma-read : tie.Need-shared-slice-read-luma
 luma-read c =
-    let h = modes-fit _ _ _ _ _ _ (sym (c .before .before .before .before .before .before .before .lengths-fit .ensures) ∙ not-false _ (c .before .before .before .before .before .before .if1 .left)) in omega (arith, h)
+    let if1 = c .before .before .before .before .before .before in
+    let lengths-fit = if1 .before in
+    let h = modes-fit _ _ _ _ _ _ (sym (lengths-fit .lengths-fit .ensures) ∙ not-false _ (if1 .if1 .left)) in
+    omega (arith, h)
 
 chroma-read : tie.Need-shared-slice-read-chroma
 chroma-read c =
-    let h = modes-fit _ _ _ _ _ _ (sym (c .before .before .before .before .before .before .before .before .lengths-fit .ensures) ∙ not-false _ (c .before .before .before .before .before .before .before .if1 .left)) in omega (arith, h)
+    let if1 = c .before .before .before .before .before .before .before in
+    let lengths-fit = if1 .before in
+    let h = modes-fit _ _ _ _ _ _ (sym (lengths-fit .lengths-fit .ensures) ∙ not-false _ (if1 .if1 .left)) in
+    omega (arith, h)
 
 skip-read : tie.Need-shared-slice-read-skip
 skip-read c =
-    let h = modes-fit _ _ _ _ _ _ (sym (c .before .before .before .before .before .before .before .before .before .lengths-fit .ensures) ∙ not-false _ (c .before .before .before .before .before .before .before .before .if1 .left)) in omega (arith, h)
-
-put-count-requires : tie.Need-put-count-requires
-put-count-requires c κs = clipped-fits _ _ _ _ _ _ (sym (c .before .before .before .before .before .before .before .before .before .lengths-fit .ensures) ∙ not-false _ (c .before .before .before .before .before .before .before .before .if1 .left))
-
-put-count-requires-2 : tie.Need-put-count-requires-2
-put-count-requires-2 c κs = clipped-fits _ _ _ _ _ _ (sym (c .before .before .before .before .before .before .before .before .before .before .before .before .before .before .before .before .before .before .before .lengths-fit .ensures) ∙ not-false _ (c .before .before .before .before .before .before .before .before .before .before .before .before .before .before .before .before .before .before .if1 .left))
-
-lay-requires : tie.Need-lay-requires
-lay-requires c κs = out-fits _ _ _ _ _ _ (sym (c .before .before .before .before .before .before .before .before .before .before .before .before .before .before .lengths-fit .ensures) ∙ not-false _ (c .before .before .before .before .before .before .before .before .before .before .before .before .before .if1 .left))
+    let if1 = c .before .before .before .before .before .before .before .before in
+    let lengths-fit = if1 .before in
+    let h = modes-fit _ _ _ _ _ _ (sym (lengths-fit .lengths-fit .ensures) ∙ not-false _ (if1 .if1 .left)) in
+    omega (arith, h)
 
 returns-3 : tie.Need-returns-3
 returns-3 c =
-    rw (c .before .before .put-count2 .ensures)
-    (given _ _ _ _ _ _ (sym (c .before .before .before .before .before .before .before .before .before .before .before .before .before .before .before .before .before .before .before .before .before .before .lengths-fit .ensures) ∙ not-false _ (c .before .before .before .before .before .before .before .before .before .before .before .before .before .before .before .before .before .before .before .before .before .if1 .left)) _ _ _ _ _ (c .before .before .before .before .before .before .before .before .before .before .before .before .before .before .before .before .before .before .before .before .record-of .ensures)
-    (sym (c .before .before .before .before .before .before .before .before .before .before .before .before .before .before .before .before .before .before .before .marks-known .ensures) ∙ not-false _ (c .before .before .before .before .before .before .before .before .before .before .before .before .before .before .before .before .before .before .if2 .left)) (c .before .before .before .before .before .before .before .before .before .before .before .before .before .before .before .before .before .sixteen .ensures) (c .before .before .before .before .before .before .before .before .before .before .before .before .before .before .before .before .neighbors-of .ensures) (c .before .before .before .before .before .before .before .before .before .before .before .before .draw .ensures) (c .before .before .before .before .before .before .before .lay .ensures))
+    let put-count2 = c .before .before in
+    let put-planes = put-count2 .before .before .before .before .before in
+    let draw = put-planes .before .before .before .before .before in
+    let neighbors-of = draw .before .before .before .before in
+    let sixteen = neighbors-of .before in
+    let if2 = sixteen .before in
+    let marks-known = if2 .before in
+    let record-of = marks-known .before in
+    let if1 = record-of .before in
+    let lengths-fit = if1 .before in
+    given _ _ _ _ _ _ (sym (lengths-fit .lengths-fit .ensures) ∙ not-false _ (if1 .if1 .left)) _ _ _ _ _ _ (record-of .record-of .ensures)
+    (sym (marks-known .marks-known .ensures) ∙ not-false _ (if2 .if2 .left)) (sixteen .sixteen .ensures) (neighbors-of .neighbors-of .ensures)
+    (draw .draw .ensures) (put-planes .put-planes .ensures) (put-count2 .put-count2 .ensures)
 
 pub macroblock-spec : {M : Type 1} → statement M
 macroblock-spec =
@@ -52,7 +68,7 @@ macroblock-spec =
     (λ c κs. tt)
     (λ c κs. tt)
     (λ c κs. tt)
-    put-count-requires
+    (λ c κs. tt)
     (λ c. search needs)
     (λ c. search needs)
     returns-2
@@ -62,9 +78,9 @@ macroblock-spec =
     chroma-read
     skip-read
     (λ c κs. tt)
-    lay-requires
+    (λ c κs. tt)
     (λ c. search needs)
-    put-count-requires-2
+    (λ c κs. tt)
     (λ c. search needs)
     (λ c. search needs)
     returns-3)

@@ -51,12 +51,13 @@ same-length c =
 
 returns : tie.Need-returns Inv-loop μ-loop
 returns c =
-    let i = c .before .loop in
-    let d = c .before .before in
-    let s = d .before .before in
+    let loop = c .before in
+    let start = loop .before in
+    let i = loop .loop in
+    let s = start .before .before in
     let a = s .args in
     let full : i .i ≡ 15 = omega arith in
-    block-done (R16 (a .dc)) (R16 (a .ac)) (a .k) (a .coeffs .now) (i .coeffs) (d .dequant .result) (d .dequant .ok) (d .before .dequant-arg .given) (d .dequant .ensures)
+    block-done (R16 (a .dc)) (R16 (a .ac)) (a .k) (a .coeffs .now) (i .coeffs) (start .dequant .result) (start .dequant .ok) (start .before .dequant-arg .given) (start .dequant .ensures)
     (rw full at (i .inv .2))
     ∙ rw (toZ-ofZ (s .fits .dc), toZ-ofZ (s .fits .ac))
 

@@ -1,6 +1,5 @@
 -- `picture_limits::sizes_ok` meets its contract: y counts the macroblocks. Assumes nothing.
 use mathlib.Core.Path.{refl, sym, _∙_}
-use native.Mathlib.Omega.{arith}
 use borrow.Author.Needs.{needs}
 use borrow.Author.Tests.{not-true, not-false}
 use Rattle.picture_limits.proofs.Accepted.{sizes-luma, sizes-other, sizes-last}

@@ -11,11 +11,19 @@ returns c = rw (sym (c .before .edge-fits .ensures) ∙ not-true _ (c .if1 .take
 
 returns-2 : tie.Need-returns-2
 unfolding lengthsFit
-returns-2 c = rw (sym (c .before .before .before .edge-fits .ensures) ∙ not-false _ (c .before .before .if1 .left), sym (c .before .edge-fits2 .ensures) ∙ not-true _ (c .if2 .taken)) refl
+returns-2 c =
+    let edge-fits2 = c .before in
+    let if1 = edge-fits2 .before in
+    let edge-fits = if1 .before in
+    rw (sym (edge-fits .edge-fits .ensures) ∙ not-false _ (if1 .if1 .left), sym (edge-fits2 .edge-fits2 .ensures) ∙ not-true _ (c .if2 .taken)) refl
 
 returns-3 : tie.Need-returns-3
 unfolding lengthsFit
-returns-3 c = rw (sym (c .before .before .before .edge-fits .ensures) ∙ not-false _ (c .before .before .if1 .left), sym (c .before .edge-fits2 .ensures) ∙ not-false _ (c .if2 .left)) refl
+returns-3 c =
+    let edge-fits2 = c .before in
+    let if1 = edge-fits2 .before in
+    let edge-fits = if1 .before in
+    rw (sym (edge-fits .edge-fits .ensures) ∙ not-false _ (if1 .if1 .left), sym (edge-fits2 .edge-fits2 .ensures) ∙ not-false _ (c .if2 .left)) refl
 
 pub lengths-fit-spec : {M : Type 1} → statement M
 lengths-fit-spec = tie.close (tie.spec (λ c κs. tt) returns (λ c κs. tt) returns-2 returns-3)

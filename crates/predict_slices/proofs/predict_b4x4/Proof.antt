@@ -1,7 +1,7 @@
 -- `predict_slices::predict_b4x4` meets its contract. Assumes nothing.
-use mathlib.Core.Path.{refl, sym, _∙_}
+use mathlib.Core.Path.{refl}
 use borrow.Author.Needs.{needs}
-use borrow.Author.Tests.{eq-eqb, ne-eqb, not-true, not-false}
+use borrow.Author.Tests.{eq-eqb, ne-eqb}
 use Rattle.predict_slices.specs.Answers.{subBlockAnswer}
 use Rattle.predict_slices.proofs.Drawn.{sub-block-unknown, sub-block-drawn}
 use Rattle.predict_slices.proofs.predict_b4x4.Statement.{statement}
@@ -20,12 +20,29 @@ unfolding subBlockAnswer
 returns-3 c = rw (eq-eqb _ _ (c .before .before .if1 .left), eq-eqb _ _ (c .before .if2 .left), ne-eqb _ _ (c .if3 .taken)) refl
 
 returns-4 : tie.Need-returns-4
-returns-4 c = sub-block-unknown _ _ _ _ _ _ _ (c .before .before .before .before .before .before .before .before .if1 .left) (c .before .before .before .before .before .before .before .if2 .left) (c .before .before .before .before .before .before .if3 .left) (c .before .before .before .before .before .b-reply .ensures) (c .before .before .before .before .if4 .taken) (c .before .before .clear .ensures)
+returns-4 c =
+    let clear = c .before .before in
+    let if4 = clear .before .before in
+    let b-reply = if4 .before in
+    let if3 = b-reply .before in
+    let if2 = if3 .before in
+    let if1 = if2 .before in
+    sub-block-unknown _ _ _ _ _ _ _ (if1 .if1 .left) (if2 .if2 .left) (if3 .if3 .left) (b-reply .b-reply .ensures) (if4 .if4 .taken) (clear .clear .ensures)
 
 returns-5 : tie.Need-returns-5
 returns-5 c =
-    sub-block-drawn _ _ _ _ _ _ _ _ _ _ _ (c .before .before .before .before .before .before .before .before .before .before .before .before .if1 .left) (c .before .before .before .before .before .before .before .before .before .before .before .if2 .left) (c .before .before .before .before .before .before .before .before .before .before .if3 .left) (c .before .before .before .before .before .before .before .before .before .b-reply .ensures) (c .before .before .before .before .before .before .before .before .if4 .left) (c .before .before .before .before .before .before .eight .ensures) (c .before .before .before .before .before .four .ensures)
-    (c .before .before .before .before .before .before .before .b-mode .ensures) (c .before .before .before .before .predict-b4x4 .ensures) (c .before .before .put-sub-block .ensures)
+    let put-sub-block = c .before .before in
+    let predict-b4x4 = put-sub-block .before .before in
+    let four = predict-b4x4 .before in
+    let eight = four .before in
+    let b-mode = eight .before in
+    let if4 = b-mode .before in
+    let b-reply = if4 .before in
+    let if3 = b-reply .before in
+    let if2 = if3 .before in
+    let if1 = if2 .before in
+    sub-block-drawn _ _ _ _ _ _ _ _ _ _ _ (if1 .if1 .left) (if2 .if2 .left) (if3 .if3 .left) (b-reply .b-reply .ensures) (if4 .if4 .left) (eight .eight .ensures) (four .four .ensures)
+    (b-mode .b-mode .ensures) (predict-b4x4 .predict-b4x4 .ensures) (put-sub-block .put-sub-block .ensures)
 
 pub predict-b4x4-spec : {M : Type 1} → statement M
 predict-b4x4-spec =

@@ -1,8 +1,7 @@
 -- `predict_slices::predict_uv8x8` meets its contract. Assumes nothing.
-use mathlib.Core.Path.{refl, sym, _∙_}
+use mathlib.Core.Path.{sym, _∙_}
 use borrow.Author.Needs.{needs}
-use borrow.Author.Tests.{eq-eqb, ne-eqb, not-true, not-false}
-use Rattle.predict_slices.specs.Answers.{subBlockAnswer}
+use borrow.Author.Tests.{not-true, not-false}
 use Rattle.predict_slices.proofs.Drawn.{chroma-refused, chroma-unknown, chroma-drawn}
 use Rattle.predict_slices.proofs.predict_uv8x8.Statement.{statement}
 use Rattle.predict_slices.proofs.predict_uv8x8.Tie as tie
@@ -12,12 +11,26 @@ returns c = chroma-refused _ _ _ _ _ (sym (c .before .lengths-fit .ensures) ∙ 
 
 returns-2 : tie.Need-returns-2
 returns-2 c =
-    chroma-unknown _ _ _ _ _ _ _ (sym (c .before .before .before .before .before .before .before .lengths-fit .ensures) ∙ not-false _ (c .before .before .before .before .before .before .if1 .left)) (c .before .before .before .before .before .uv-reply .ensures) (c .before .before .before .before .if2 .taken) (c .before .before .clear .ensures)
+    let clear = c .before .before in
+    let if2 = clear .before .before in
+    let uv-reply = if2 .before in
+    let if1 = uv-reply .before in
+    let lengths-fit = if1 .before in
+    chroma-unknown _ _ _ _ _ _ _ (sym (lengths-fit .lengths-fit .ensures) ∙ not-false _ (if1 .if1 .left)) (uv-reply .uv-reply .ensures) (if2 .if2 .taken) (clear .clear .ensures)
 
 returns-3 : tie.Need-returns-3
 returns-3 c =
-    chroma-drawn _ _ _ _ _ _ _ _ _ _ _ (sym (c .before .before .before .before .before .before .before .before .before .before .before .lengths-fit .ensures) ∙ not-false _ (c .before .before .before .before .before .before .before .before .before .before .if1 .left)) (c .before .before .before .before .before .before .before .before .before .uv-reply .ensures) (c .before .before .before .before .before .before .before .before .if2 .left) (c .before .before .before .before .before .before .before .eight .ensures)
-    (c .before .before .before .before .before .before .eight2 .ensures) (c .before .before .before .before .before .uv-mode .ensures) (c .before .before .before .before .predict-uv8x8 .ensures) (c .before .before .put-chroma .ensures)
+    let put-chroma = c .before .before in
+    let predict-uv8x8 = put-chroma .before .before in
+    let uv-mode = predict-uv8x8 .before in
+    let eight2 = uv-mode .before in
+    let eight = eight2 .before in
+    let if2 = eight .before in
+    let uv-reply = if2 .before in
+    let if1 = uv-reply .before in
+    let lengths-fit = if1 .before in
+    chroma-drawn _ _ _ _ _ _ _ _ _ _ _ (sym (lengths-fit .lengths-fit .ensures) ∙ not-false _ (if1 .if1 .left)) (uv-reply .uv-reply .ensures) (if2 .if2 .left) (eight .eight .ensures)
+    (eight2 .eight2 .ensures) (uv-mode .uv-mode .ensures) (predict-uv8x8 .predict-uv8x8 .ensures) (put-chroma .put-chroma .ensures)
 
 pub predict-uv8x8-spec : {M : Type 1} → statement M
 predict-uv8x8-spec =

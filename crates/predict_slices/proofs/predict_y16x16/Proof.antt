@@ -1,8 +1,7 @@
 -- `predict_slices::predict_y16x16` meets its contract. Assumes nothing.
-use mathlib.Core.Path.{refl, sym, _∙_}
+use mathlib.Core.Path.{sym, _∙_}
 use borrow.Author.Needs.{needs}
-use borrow.Author.Tests.{eq-eqb, ne-eqb, not-true, not-false}
-use Rattle.predict_slices.specs.Answers.{subBlockAnswer}
+use borrow.Author.Tests.{not-true, not-false}
 use Rattle.predict_slices.proofs.Drawn.{luma-refused, luma-unknown, luma-drawn}
 use Rattle.predict_slices.proofs.predict_y16x16.Statement.{statement}
 use Rattle.predict_slices.proofs.predict_y16x16.Tie as tie
@@ -12,12 +11,26 @@ returns c = luma-refused _ _ _ _ _ (sym (c .before .lengths-fit .ensures) ∙ no
 
 returns-2 : tie.Need-returns-2
 returns-2 c =
-    luma-unknown _ _ _ _ _ _ _ (sym (c .before .before .before .before .before .before .before .lengths-fit .ensures) ∙ not-false _ (c .before .before .before .before .before .before .if1 .left)) (c .before .before .before .before .before .y-reply .ensures) (c .before .before .before .before .if2 .taken) (c .before .before .clear .ensures)
+    let clear = c .before .before in
+    let if2 = clear .before .before in
+    let y-reply = if2 .before in
+    let if1 = y-reply .before in
+    let lengths-fit = if1 .before in
+    luma-unknown _ _ _ _ _ _ _ (sym (lengths-fit .lengths-fit .ensures) ∙ not-false _ (if1 .if1 .left)) (y-reply .y-reply .ensures) (if2 .if2 .taken) (clear .clear .ensures)
 
 returns-3 : tie.Need-returns-3
 returns-3 c =
-    luma-drawn _ _ _ _ _ _ _ _ _ _ _ (sym (c .before .before .before .before .before .before .before .before .before .before .before .before .lengths-fit .ensures) ∙ not-false _ (c .before .before .before .before .before .before .before .before .before .before .before .if1 .left)) (c .before .before .before .before .before .before .before .before .before .before .y-reply .ensures) (c .before .before .before .before .before .before .before .before .before .if2 .left) (c .before .before .before .before .before .before .before .before .sixteen .ensures)
-    (c .before .before .before .before .before .before .before .sixteen2 .ensures) (c .before .before .before .before .before .before .y-mode .ensures) (c .before .before .before .before .before .predict-y16x16 .ensures) (c .before .before .put-luma .ensures)
+    let put-luma = c .before .before in
+    let predict-y16x16 = put-luma .before .before .before in
+    let y-mode = predict-y16x16 .before in
+    let sixteen2 = y-mode .before in
+    let sixteen = sixteen2 .before in
+    let if2 = sixteen .before in
+    let y-reply = if2 .before in
+    let if1 = y-reply .before in
+    let lengths-fit = if1 .before in
+    luma-drawn _ _ _ _ _ _ _ _ _ _ _ (sym (lengths-fit .lengths-fit .ensures) ∙ not-false _ (if1 .if1 .left)) (y-reply .y-reply .ensures) (if2 .if2 .left) (sixteen .sixteen .ensures)
+    (sixteen2 .sixteen2 .ensures) (y-mode .y-mode .ensures) (predict-y16x16 .predict-y16x16 .ensures) (put-luma .put-luma .ensures)
 
 pub predict-y16x16-spec : {M : Type 1} → statement M
 predict-y16x16-spec =

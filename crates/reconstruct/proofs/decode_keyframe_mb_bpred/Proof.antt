@@ -11,7 +11,11 @@ returns c = rw (not-true (c .before .before .args .sub-modes-there) (c .before .
 
 returns-2 : tie.Need-returns-2
 unfolding walkB
-returns-2 c = rw (not-false (c .before .before .before .args .sub-modes-there) (c .before .before .if1 .left), ne-eqb _ _ (c .before .if2 .taken)) (c .refused2 .ensures)
+returns-2 c =
+    let if2 = c .before in
+    let if1 = if2 .before in
+    let start = if1 .before in
+    rw (not-false (start .args .sub-modes-there) (if1 .if1 .left), ne-eqb _ _ (if2 .if2 .taken)) (c .refused2 .ensures)
 
 returns-3 : tie.Need-returns-3
 unfolding walkB

@@ -1,9 +1,9 @@
 -- `slices::clear` meets its contract. Assumes nothing.
 use Prim.Native.Nat.{_≤_, _-_}
-use mathlib.Core.Path.{_≡_, refl, _∙_, ap}
+use mathlib.Core.Path.{_≡_, refl, _∙_}
 use mathlib.Core.List.{_++_}
 use native.Mathlib.Omega.{arith}
-use lib.ListN.{length, drop, length-set, replicate}
+use lib.ListN.{length, drop, length-set}
 use Rattle.lists.specs.Lists.{table}
 use Rattle.lists.proofs.Table.{table-none, table-turn, table-done, table-same}
 use Rattle.slices.specs.Copies.{cleared}

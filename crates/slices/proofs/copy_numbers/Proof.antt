@@ -1,6 +1,5 @@
 -- `slices::copy_numbers` meets its contract. Assumes nothing.
-use mathlib.Core.Path.{_∙_, refl, sym}
-use native.Mathlib.Omega.{arith}
+use mathlib.Core.Path.{refl}
 use borrow.Author.Needs.{needs}
 use borrow.Author.Tests.{eq-eqb, ne-eqb}
 use Rattle.slices.specs.Copies.{copied}

@@ -1,5 +1,4 @@
 -- `still::lengths_ok` meets its contract. Assumes nothing.
-use Prim.Native.Nat.{_*_, _≤_}
 use mathlib.Core.Path.{refl}
 use native.Mathlib.Omega.{arith}
 use borrow.Author.Tests.{eq-eqb, ne-eqb}
@@ -34,7 +33,11 @@ returns-3 c = rw (eq-eqb _ _ (c .before .before .if1 .left), eq-eqb _ _ (c .befo
 
 returns-4 : tie.Need-returns-4
 unfolding lengthsOk
-returns-4 c = rw (eq-eqb _ _ (c .before .before .before .if1 .left), eq-eqb _ _ (c .before .before .if2 .left), eq-eqb _ _ (c .before .if3 .left)) (c .sizes-ok .ensures)
+returns-4 c =
+    let if3 = c .before in
+    let if2 = if3 .before in
+    let if1 = if2 .before in
+    rw (eq-eqb _ _ (if1 .if1 .left), eq-eqb _ _ (if2 .if2 .left), eq-eqb _ _ (if3 .if3 .left)) (c .sizes-ok .ensures)
 
 pub lengths-ok-spec : {M : Type 1} → statement M
 lengths-ok-spec = tie.close (tie.spec mul-n mul-if1 returns mul-if2 returns-2 mul-if3 returns-3 (λ c κs. tt) returns-4)

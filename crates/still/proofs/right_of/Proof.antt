@@ -5,7 +5,7 @@ use native.Mathlib.Omega.{arith}
 use borrow.Author.Needs.{needs}
 use borrow.Author.Tests.{eq-eqb, ne-eqb}
 use Rattle.still.specs.Picture.{rightAt}
-use Rattle.still.proofs.Parts.{part-whole}
+use Rattle.slices.proofs.Parts.{part-whole}
 use Rattle.still.proofs.right_of.Statement.{statement}
 use Rattle.still.proofs.right_of.Tie as tie
 
@@ -15,7 +15,9 @@ returns c = rw (eq-eqb _ _ (c .if1 .taken)) refl
 
 returns-2 : tie.Need-returns-2
 unfolding rightAt
-returns-2 c = rw (ne-eqb _ _ (c .before .before .if1 .left)) (c .four .ensures ∙ part-whole 0 4 (4 * ((c .before .before .before .before) .args .row - 1)) ((c .before .before .before .before) .args .right .now) (omega arith))
+returns-2 c =
+    let a = c .before .before .before .before .args in
+    rw (ne-eqb _ _ (c .before .before .if1 .left)) (c .four .ensures ∙ part-whole 0 4 (4 * (a .row - 1)) (a .right .now) (omega arith))
 
 pub right-of-spec : {M : Type 1} → statement M
 right-of-spec =

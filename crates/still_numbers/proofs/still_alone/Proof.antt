@@ -14,13 +14,20 @@ returns c = rw (ne-eqb _ _ (c .before .if1 .taken)) (pair (c .early .ensures) re
 
 number-requires : tie.Need-number-requires
 number-requires c κs =
-    let a = c .before .before .before .before .before .before .before .before .before .before .before .before .before .before .before .before .before .before .before .before .before .args in
-    index-of (c .before .before .before .before .before .before .before .before .before .before .still-alone .result) _ _ _ _ (c .before .before .before .before .before .before .before .before .before .before .still-alone .ensures .0) (alone-index (a .cols) (a .rows) (a .modes .now) (a .sub-modes .now) (a .coeffs .now) (a .y .now) (a .u .now) (a .v .now))
+    let still-alone = c .before .before .before .before .before .before .before .before .before .before in
+    let start = still-alone .before .before .before .before .before .before .before .before .before .before .before in
+    let a = start .args in
+    index-of (still-alone .still-alone .result) _ _ _ _ (still-alone .still-alone .ensures)
+    (alone-index (a .cols) (a .rows) (a .modes .now) (a .sub-modes .now) (a .coeffs .now) (a .y .now) (a .u .now) (a .v .now))
 
 returns-2 : tie.Need-returns-2
 unfolding aloneNumber
 returns-2 c =
-    rw (eq-eqb _ _ (c .before .before .before .before .before .before .before .before .before .before .before .before .before .before .before .if1 .left)) (counted _ _ _ _ _ _ _ _ (c .before .before .before .before .before .before .before .before .before .before .before .still-alone .ensures .0) (c .number .ensures) (c .before .before .before .put-count .ensures) (c .before .before .before .before .before .before .before .before .before .before .before .still-alone .ensures .1))
+    let put-count = c .before .before .before in
+    let still-alone = put-count .before .before .before .before .before .before .before .before in
+    let if1 = still-alone .before .before .before .before in
+    rw (eq-eqb _ _ (if1 .if1 .left))
+    (counted _ _ _ _ _ _ _ _ (if1 .if1 .left) (still-alone .still-alone .ensures) (c .number .ensures) (put-count .put-count .ensures))
 
 pub still-alone-spec : {M : Type 1} → statement M
 still-alone-spec =
@@ -29,7 +36,7 @@ still-alone-spec =
     (λ c κs. tt)
     returns
     (λ c κs. tt)
-    (λ c κs. search needs)
+    (λ c κs. tt)
     number-requires
     (λ c. search needs)
     (λ c. search needs)

@@ -1,9 +1,5 @@
 -- `transform_slices::add_residue` meets its contract. Assumes nothing.
-use mathlib.Core.Path.{refl, ap, _∙_}
 use borrow.Author.Needs.{needs}
-use borrow.Author.Tests.{eq-eqb, ne-eqb}
-use lib.IntN.{pos}
-use Rattle.slices.proofs.Copied.{or-zeros-fit, put-fit}
 use Rattle.slices.proofs.Pairs.{pair}
 use Rattle.transform_slices.specs.Answers.{residueAnswer}
 use Rattle.transform_slices.proofs.add_residue.Statement.{statement}

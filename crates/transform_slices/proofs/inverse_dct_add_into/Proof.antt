@@ -3,7 +3,7 @@ use mathlib.Core.Path.{refl, _∙_}
 use borrow.Author.Needs.{needs}
 use borrow.Author.Tests.{eq-eqb, ne-eqb}
 use lib.IntN.{pos}
-use Rattle.slices.proofs.Copied.{or-zeros-fit}
+use Rattle.slices.proofs.Copied.{or-zeros-fit, put-fit}
 use Rattle.transform_slices.specs.Answers.{addIntoAnswer}
 use Rattle.transform_slices.proofs.Made.{add-made}
 use Rattle.transform_slices.proofs.inverse_dct_add_into.Statement.{statement}
@@ -28,7 +28,8 @@ returns-3 c =
     let a = one .before .before .before .args in
     let told = called .inverse-dct-4x4-add-into .ensures in
     rw (eq-eqb _ _ (one .if1 .left), eq-eqb _ _ (two .if2 .left))
-    (add-made (a .stride) (a .sub-row) (a .sub-col) (a .plane .now) (told .0) (told .1) (put .put-count .ensures)
+    (add-made (a .stride) (a .sub-row) (a .sub-col) (a .plane .now) (told .0) (told .1)
+    (put .put-count .ensures ∙ put-fit 1 _ (a .clipped .now) (two .if2 .left))
     (block .sixteen-numbers .ensures ∙ or-zeros-fit (pos 0) 16 _ (one .if1 .left)))
 
 pub inverse-dct-add-into-spec : {M : Type 1} → statement M
@@ -38,9 +39,9 @@ inverse-dct-add-into-spec =
     returns
     returns-2
     (λ c κs. tt)
-    (λ c κs. search needs)
+    (λ c κs. tt)
     (λ c. search needs)
-    (λ c κs. search needs)
+    (λ c κs. tt)
     (λ c. search needs)
     (λ c. search needs)
     returns-3)

@@ -4,7 +4,7 @@ use borrow.Author.Needs.{needs}
 use borrow.Author.Tests.{eq-eqb, ne-eqb}
 use mir.Facts.{toZ-ofZ}
 use Rattle.rfc6386.specs.Wht.{iwhtDc}
-use Rattle.slices.proofs.Copied.{or-zeros-fit, put-fit}
+use Rattle.slices.proofs.Copied.{put-fit}
 use Rattle.slices.proofs.Pairs.{pair}
 use Rattle.transform_slices.specs.Answers.{whtDcAnswer}
 use Rattle.transform_slices.proofs.inverse_wht_dc_only.Statement.{statement}

@@ -10,7 +10,9 @@ use Rattle.whole.proofs.clamp255.Statement.{statement}
 use Rattle.whole.proofs.clamp255.Tie as tie
 
 cast-result : tie.Need-cast-result
-cast-result c = rw (held32 (c .within-byte .result) (c .within-byte .ok), c .within-byte .ensures) (tt, record { fits = clamp-byte (toZ w32 (ofZ w32 (c .before .args .v))) })
+cast-result c =
+    let start = c .before in
+    rw (held32 (c .within-byte .result) (c .within-byte .ok), c .within-byte .ensures) (tt, record { fits = clamp-byte (toZ w32 (ofZ w32 (start .args .v))) })
 
 returns : tie.Need-returns
 returns c = rw (held32 (c .within-byte .result) (c .within-byte .ok), c .within-byte .ensures) (ap clamp (toZ-ofZ (c .before .fits .v)))

@@ -1,7 +1,6 @@
 -- `planes::chroma::plane` meets its contract. Assumes nothing.
 use mathlib.Core.Path.{_≡_}
 use native.Mathlib.Omega.{arith}
-use borrow.Author.Needs.{needs}
 use lib.ListN.{length}
 use Rattle.planes.proofs.Whole.{chroma-skipped, chroma-coded}
 use Rattle.planes.proofs.chroma.plane.Statement.{statement}
@@ -12,9 +11,12 @@ returns c = rw (c .if1 .taken) (chroma-skipped _ _ _)
 
 returns-2 : tie.Need-returns-2
 returns-2 c =
-    let s = (c .before .before .before .before .before .before .before) in
-    let h : length (s .args .t1) ≡ 64 = omega (arith, s .good) in
-    rw (c .before .before .before .before .before .before .if1 .left) (chroma-coded _ _ _ _ _ _ h (c .before .before .before .before .before .residues .ensures) (c .add-blocks .ensures) (c .before .before .clipped .ensures))
+    let clipped = c .before .before in
+    let residues = clipped .before .before .before in
+    let if1 = residues .before in
+    let start = if1 .before in
+    let h : length (start .args .t1) ≡ 64 = omega (arith, start .good) in
+    rw (if1 .if1 .left) (chroma-coded _ _ _ _ _ _ h (residues .residues .ensures) (c .add-blocks .ensures) (clipped .clipped .ensures))
 
 pub plane-spec : {M : Type 1} → statement M
 plane-spec = tie.close (tie.spec returns (λ c κs. tt) (λ c κs. tt) (λ c κs. tt) returns-2)

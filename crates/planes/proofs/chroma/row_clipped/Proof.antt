@@ -3,7 +3,7 @@ use Prim.Native.Nat.{_-_, _≤_, _+_, _*_, _/_, _%_}
 use mathlib.Core.Path.{_≡_, refl}
 use native.Mathlib.Omega.{arith}
 use mir.Facts.{toZ-ofZ}
-use borrow.Author.Needs.{needs, sfits-of}
+use borrow.Author.Needs.{sfits-of}
 use lib.IntN.{pos}
 use lib.ListN.{getD}
 use Rattle.clipping.specs.Clipped.{total, over}

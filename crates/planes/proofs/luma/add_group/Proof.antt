@@ -24,7 +24,10 @@ unfolding turns
 loop-holds c = (omega arith, refl)
 
 loop-again : tie.Need-loop-again Inv-loop μ-loop
-loop-again c = (omega arith, turns-step _ _ _ _ _ (c .before .before .before .before .loop .inv .1) (rw (c .sum .ensures, toZ-ofZ (sfits-of (c .before .sum-arg2 .given)))))
+loop-again c =
+    let sum-arg2 = c .before in
+    let loop = sum-arg2 .before .before .before in
+    (omega arith, turns-step _ _ _ _ _ (loop .loop .inv .1) (rw (c .sum .ensures, toZ-ofZ (sfits-of (sum-arg2 .sum-arg2 .given)))))
 
 returns : tie.Need-returns Inv-loop μ-loop
 unfolding groupAdded

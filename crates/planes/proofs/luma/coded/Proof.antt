@@ -1,15 +1,14 @@
 -- `planes::luma::coded` meets its contract. Assumes nothing.
 use Prim.Native.Nat.{_-_, _≤_, _*_}
-use mathlib.Core.Path.{_≡_, refl, _∙_, sym}
+use mathlib.Core.Path.{_≡_, refl}
 use native.Mathlib.Omega.{arith}
 use borrow.Author.Needs.{needs}
 use Rattle.lists.specs.Lists.{turns}
-use Rattle.lists.proofs.Turns.{turns-step, turns-done}
+use Rattle.lists.proofs.Turns.{turns-step}
 use Rattle.clipping.specs.Clipped.{total}
 use Rattle.clipping.proofs.Total.{total-turn}
 use Rattle.rfc6386.specs.Dct.{idctFour}
 use Rattle.planes.specs.Steps.{seededFour, groupAdded, groupClipped}
-use Rattle.planes.specs.Drawn.{lumaCoded}
 use Rattle.planes.proofs.Counts.{group-≤}
 use Rattle.planes.proofs.Whole.{luma-coded}
 use Rattle.planes.proofs.luma.coded.Statement.{statement}
@@ -34,10 +33,13 @@ add-n c = let h : c .group-clipped .result ≤ 64 = rw (c .group-clipped .ensure
 
 loop-again : tie.Need-loop-again Inv-loop μ-loop
 loop-again c =
-    let h : c .before .before .group-clipped .result ≤ 64 = rw (c .before .before .group-clipped .ensures) (group-≤ _ _ _) in (
+    let group-clipped = c .before .before in
+    let residues-of = group-clipped .before .before .before in
+    let loop = residues-of .before .before in
+    let h : group-clipped .group-clipped .result ≤ 64 = rw (group-clipped .group-clipped .ensures) (group-≤ _ _ _) in (
       omega arith,
-      turns-step _ _ _ _ _ (c .before .before .before .before .before .before .before .loop .inv .1) (rw (c .add-group .ensures, c .before .before .before .before .before .residues-of .ensures)),
-      total-turn _ _ _ _ (c .before .before .before .before .before .before .before .loop .inv .2) (rw (c .before .before .group-clipped .ensures, c .before .before .before .before .before .residues-of .ensures)),
+      turns-step _ _ _ _ _ (loop .loop .inv .1) (rw (c .add-group .ensures, residues-of .residues-of .ensures)),
+      total-turn _ _ _ _ (loop .loop .inv .2) (rw (group-clipped .group-clipped .ensures, residues-of .residues-of .ensures)),
       omega (arith, h),
     )
 
@@ -45,7 +47,7 @@ returns : tie.Need-returns Inv-loop μ-loop
 returns c =
     let l = c .before .loop in
     let full : l .i ≡ 4 = omega arith in
-    luma-coded _ _ _ _ _ ((c .before .before .before) .pre) (c .before .before .seeds .ensures) (rw full at (l .inv .1)) (rw full at (l .inv .2))
+    luma-coded _ _ _ _ _ (c .before .before .before .pre) (c .before .before .seeds .ensures) (rw full at (l .inv .1)) (rw full at (l .inv .2))
 
 pub coded-spec : {M : Type 1} → statement M
 coded-spec =

@@ -1,8 +1,5 @@
 -- `planes::y_whole` meets its contract. Assumes nothing.
-use mathlib.Core.Path.{_≡_, _∙_}
-use native.Mathlib.Omega.{arith}
 use borrow.Author.Needs.{needs}
-use lib.ListN.{length}
 use Rattle.planes.proofs.Whole.{y-skipped, y-coded}
 use Rattle.planes.proofs.luma.y_whole.Statement.{statement}
 use Rattle.planes.proofs.luma.y_whole.Tie as tie

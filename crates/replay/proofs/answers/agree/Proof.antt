@@ -13,7 +13,11 @@ returns-2 : tie.Need-returns-2
 returns-2 c = λ e. absurd (false≢true e)
 
 returns-3 : tie.Need-returns-3
-returns-3 c = λ t. first-and-rest _ _ _ (c .before .before .before .before .before .if1 .left) (sym (c .before .before .before .wide .ensures) ∙ c .before .before .if2 .left) (c .same .ensures .0 t)
+returns-3 c =
+    let if2 = c .before .before in
+    let wide = if2 .before in
+    let if1 = wide .before .before in
+    λ t. first-and-rest _ _ _ (if1 .if1 .left) (sym (wide .wide .ensures) ∙ if2 .if2 .left) (c .same .ensures .0 t)
 
 pub agree-spec : {M : Type 1} → statement M
 agree-spec =

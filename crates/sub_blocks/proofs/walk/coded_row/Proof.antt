@@ -1,6 +1,6 @@
 -- `sub_blocks::walk::coded_row` meets its contract. Assumes nothing.
 use Prim.Native.Nat.{_-_, _≤_, _*_}
-use mathlib.Core.Path.{_≡_, refl, ap}
+use mathlib.Core.Path.{_≡_, refl}
 use native.Mathlib.Omega.{arith}
 use borrow.Author.Needs.{needs}
 use Rattle.lists.specs.Lists.{turns}

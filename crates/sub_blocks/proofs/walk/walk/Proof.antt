@@ -1,6 +1,5 @@
 -- `sub_blocks::walk::walk` meets its contract. Assumes nothing.
 use mathlib.Core.Path.{_∙_}
-use borrow.Author.Needs.{needs}
 use Rattle.sub_blocks.proofs.Walked.{skipped-all}
 use Rattle.sub_blocks.proofs.Counts.{skipped-none}
 use Rattle.sub_blocks.proofs.walk.walk.Statement.{statement}

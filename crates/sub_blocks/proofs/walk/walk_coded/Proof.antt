@@ -34,10 +34,12 @@ add-n c = let h : c .coded-row .result ≤ 64 = rw (c .coded-row .ensures .1) (r
 
 loop-again : tie.Need-loop-again Inv-loop μ-loop
 loop-again c =
+    let residues-of = c .before .before .before in
+    let loop = residues-of .before .before in
     let h : c .coded-row .result ≤ 64 = rw (c .coded-row .ensures .1) (row-≤ _ _ _ _) in (
       omega arith,
-      turns-step _ _ _ _ _ (c .before .before .before .before .before .loop .inv .1) (rw (c .coded-row .ensures .0, c .before .before .before .residues-of .ensures)),
-      total-turn _ _ _ _ (c .before .before .before .before .before .loop .inv .2) (rw (c .coded-row .ensures .1, c .before .before .before .residues-of .ensures, c .before .before .before .before .before .loop .inv .1)),
+      turns-step _ _ _ _ _ (loop .loop .inv .1) (rw (c .coded-row .ensures .0, residues-of .residues-of .ensures)),
+      total-turn _ _ _ _ (loop .loop .inv .2) (rw (c .coded-row .ensures .1, residues-of .residues-of .ensures, loop .loop .inv .1)),
       omega (arith, h),
     )
 

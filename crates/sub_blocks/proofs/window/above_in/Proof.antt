@@ -1,5 +1,5 @@
 -- `sub_blocks::window::above_in` meets its contract: the pixels are read one after another. Assumes nothing.
-use Prim.Native.Nat.{_+_, _*_, _-_, _≤_}
+use Prim.Native.Nat.{_+_, _-_, _≤_}
 use mathlib.Core.Path.{_≡_, refl, _∙_}
 use mathlib.Core.List.{_++_}
 use lib.ListN.{getD, drop, replicate}

@@ -1,0 +1,2 @@
+-- The words of the theorems on a shelf.
+pub mod Words

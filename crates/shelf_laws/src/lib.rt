@@ -1,0 +1,1 @@
+// Nothing to run: proofs/ has the theorems about what a shelf is, and specs/ the words that they are said in.

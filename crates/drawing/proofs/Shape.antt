@@ -15,14 +15,14 @@ use Rattle.macroblock.specs.declared.modes.IntraUvMode.{IntraUvMode}
 use Rattle.macroblock.specs.declared.modes.IntraBmode.{IntraBmode}
 use Rattle.macroblock.specs.declared.modes.MbModes.{MbModes}
 use Rattle.macroblock.specs.declared.neighbors.MbNeighbors.{MbNeighbors}
-use Rattle.record_bytes.specs.Bytes.{within}
+use Rattle.record_bytes.specs.Bytes.{within, marksKnown, recordOf}
 use Rattle.rfc6386.specs.Edges.{isB}
 use Rattle.rfc6386.specs.Walk.{addedBlocks, plane, yPrediction, uPrediction, vPrediction, yWhole, yParts, uPlane, vPlane, lumaOf}
 use Rattle.rfc6386.proofs.Edges.{y-length, uv-length}
 use Rattle.clipping.proofs.Bounds.{y-whole-≤, u-≤, v-≤, y-parts-≤}
 use Rattle.reconstruct.specs.declared.ReconstructedMb.{ReconstructedMb}
 use Rattle.reconstruct.specs.Answers.{refusal, wholeOf, partsOf, nonB, walkB}
-use Rattle.drawing.specs.Drawn.{planesOf, modesKnown, modesOf, subModesOf, drawnB, drawnIn, drawnWith, drawn}
+use Rattle.drawing.specs.Drawn.{planesOf, modesKnown, modesOf, subModesOf, drawnB, drawnIn, drawnWith, drawn, drawnBytes}
 
 pub record Shape (r : ReconstructedMb) : Type 0 where
   pub luma : length (r .y) ≡ 256
@@ -82,7 +82,7 @@ module _ (skip : Bool) (n : MbNeighbors) (c : List ℤ) where
       }
 
 -- ---- the answers
-pub refusal-shape : (k : ℕ) → k ≤ 8 → Shape (refusal k)
+refusal-shape : (k : ℕ) → k ≤ 8 → Shape (refusal k)
 unfolding refusal
 refusal-shape k h =
     record {
@@ -93,7 +93,7 @@ refusal-shape k h =
       counted = lit≤ tt;
     }
 
-pub pick-shape : (b : Bool) {x y : ReconstructedMb} → Shape x → Shape y → Shape (pick b x y)
+pick-shape : (b : Bool) {x y : ReconstructedMb} → Shape x → Shape y → Shape (pick b x y)
 pick-shape true p q = p
 pick-shape false p q = q
 
@@ -123,9 +123,15 @@ module _ (m : MbModes) (subs : List ℕ) (there : Bool) (n : MbNeighbors) (c : L
   with-shape = pick-shape (eqb (length c) 400) in-shape (refusal-shape wrongLength (lit≤ tt))
 
 module _ (luma chroma skip : ℕ) (subs : List ℕ) (there : Bool) (n : MbNeighbors) (c : List ℤ) where
-  pub drawn-shape : Shape (drawn luma chroma skip subs there n c)
+  drawn-shape : Shape (drawn luma chroma skip subs there n c)
   unfolding drawn
   drawn-shape =
       pick-shape (eqb (length c) 400)
       (pick-shape (modesKnown luma chroma skip) (in-shape (modesOf luma chroma skip) subs there n c) (refusal-shape unknownByte (lit≤ tt)))
       (refusal-shape wrongLength (lit≤ tt))
+
+pub bytes-shape : (luma chroma skip : ℕ) (subs : List ℕ) (there : Bool) (edges : List ℕ) (c : List ℤ)
+    → Shape (drawnBytes luma chroma skip subs there edges c)
+unfolding drawnBytes
+bytes-shape luma chroma skip subs there edges c =
+    pick-shape (marksKnown edges) (drawn-shape luma chroma skip subs there (recordOf edges) c) (refusal-shape unknownByte (lit≤ tt))

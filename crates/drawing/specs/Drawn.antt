@@ -13,7 +13,7 @@ use Rattle.macroblock.specs.declared.modes.IntraBmode.{IntraBmode}
 use Rattle.macroblock.specs.declared.modes.MbModes.{MbModes}
 use Rattle.macroblock.specs.declared.neighbors.MbNeighbors.{MbNeighbors}
 use Rattle.mode_bytes.specs.Says.{yReply, yMode, uvReply, uvMode, bMode}
-use Rattle.record_bytes.specs.Bytes.{within}
+use Rattle.record_bytes.specs.Bytes.{within, marksKnown, recordOf}
 use Rattle.rfc6386.specs.Edges.{isB}
 use Rattle.reconstruct.specs.declared.ReconstructedMb.{ReconstructedMb}
 use Rattle.reconstruct.specs.Answers.{refusal, nonB, walkB}
@@ -52,3 +52,8 @@ drawn luma chroma skip subs there n coeffs =
     pick (eqb (length coeffs) 400)
     (pick (modesKnown luma chroma skip) (drawnIn (modesOf luma chroma skip) subs there n coeffs) (refusal unknownByte))
     (refusal wrongLength)
+
+-- the macroblock whose neighbours are 81 record bytes
+unfoldable pub drawnBytes : ℕ → ℕ → ℕ → List ℕ → Bool → List ℕ → List ℤ → ReconstructedMb
+drawnBytes luma chroma skip subs there edges coeffs =
+    pick (marksKnown edges) (drawn luma chroma skip subs there (recordOf edges) coeffs) (refusal unknownByte)

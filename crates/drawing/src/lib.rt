@@ -3,7 +3,7 @@
 ghost use mathlib.Core.Path.{_≡_};
 ghost use Prim.Native.Nat.{_≤_};
 ghost use lib.ListN.{length};
-ghost use Rattle.drawing.specs.Drawn.{modesKnown, modesOf, subModesOf, drawnB, drawnIn, drawnWith, drawn};
+ghost use Rattle.drawing.specs.Drawn.{modesKnown, modesOf, subModesOf, drawnB, drawnIn, drawnWith, drawn, drawnBytes};
 use macroblock::IntraBmode;
 use macroblock::MbModes;
 use macroblock::MbNeighbors;
@@ -117,4 +117,31 @@ pub fn draw(
     }
     let modes = modes_of(luma, chroma, skip);
     draw_in(modes, sub_modes, sub_modes_there, neighbors, coeffs)
+}
+
+// The same from the neighbour record's 81 bytes. Refused: a mark that says nothing (reply 8), then what `draw` refuses.
+pub fn draw_bytes(
+    luma: u8,
+    chroma: u8,
+    skip: u8,
+    sub_modes: [u8; 16],
+    sub_modes_there: bool,
+    edges: [u8; 81],
+    coeffs: &[i16],
+) -> ReconstructedMb
+    ensures { λ r. ⌜ r ≡ drawnBytes luma chroma skip «sub_modes» «sub_modes_there» edges (now (coeffs .entry)) ⌝ }
+{
+    if !record_bytes::marks_known(edges) {
+        return reconstruct::refused(reply::UNKNOWN_BYTE);
+    }
+    let neighbors = record_bytes::neighbors_of(edges);
+    draw(
+        luma,
+        chroma,
+        skip,
+        sub_modes,
+        sub_modes_there,
+        neighbors,
+        coeffs,
+    )
 }

@@ -4,12 +4,12 @@ use crate::block::fill;
 ghost use mathlib.Core.Path.{_≡_};
 ghost use Prim.Native.Nat.{_+_, _*_, _/_, _<_, _≤_};
 ghost use lib.ListN.{length};
-ghost use Rattle.rfc6386.specs.Edges.{total, dcPixel, dcBlock};
+ghost use Rattle.rfc6386.specs.Edges.{sumOf, dcPixel, dcBlock};
 
 // The sum of an edge, which is at most 255 for each pixel.
 fn edge_sum(edge: &[u8]) -> u32
     requires { ⌜ length (now edge) ≤ 1024 ⌝ }
-    ensures { λ r. ⌜ (r ≡ total (now (edge .entry))) × (r ≤ 255 * length (now (edge .entry))) ⌝ }
+    ensures { λ r. ⌜ (r ≡ sumOf (now (edge .entry))) × (r ≤ 255 * length (now (edge .entry))) ⌝ }
 {
     let mut sum: u32 = 0;
     for i in 0..edge.len() {

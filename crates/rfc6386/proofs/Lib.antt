@@ -11,7 +11,7 @@
 --     Tm           TM in numbers that are never negative
 --     Edges        16x16 and 8x8 prediction: TM from the H and V blocks, what an absent edge does, lengths
 --     Subblock     4x4 prediction: Dc and Tm are the same rules, its length
---     Total        the sum of an edge, pixel by pixel
+--     Sums         the sum of an edge, pixel by pixel
 --     Planes       a plane predicted whole: one pixel, what it depends on
 --     Parts        the luma of mode B: a pixel of sub-block k is the one that turn k put
 --     Absent       the bytes of an absent edge are read nowhere
@@ -30,7 +30,7 @@ pub mod Demand3
 pub mod Tm
 pub mod Edges
 pub mod Subblock
-pub mod Total
+pub mod Sums
 pub mod Planes
 pub mod Parts
 pub mod Absent

@@ -14,7 +14,7 @@ use Rattle.macroblock.specs.Neighbors.{absent}
 use Rattle.rfc6386.specs.Quantiser.{dcLookup, acLookup, clampIndex, dcFactor, acFactor, dequant}
 use Rattle.rfc6386.specs.Wht.{whtPass, whtColumn, whtRound, whtAt, iwht}
 use Rattle.rfc6386.specs.Dct.{pass, column, passes, bySin, byCos, rounded, residue, idct}
-use Rattle.rfc6386.specs.Edges.{edgeOr, pixelOr, aboveOr, leftOr, total, dcPixel, tm, dcBlock, predictY}
+use Rattle.rfc6386.specs.Edges.{edgeOr, pixelOr, aboveOr, leftOr, sumOf, dcPixel, tm, dcBlock, predictY}
 use Rattle.rfc6386.specs.Subblock.{subHe, subVe, subLd, subVl, subPixel, predictB}
 use Rattle.rfc6386.specs.Walk.{laid, blank, copiedDown, bordered, startOf, aboveIn, leftIn, topLeftIn, subPrediction, subPixels, putBlock, subBlock, walked, lumaOf, yParts}
 
@@ -79,7 +79,7 @@ pub known-pictures : (a l : List ℕ) (p : ℕ) (coeffs : List ℤ)
     × (yParts (replicate 16 b.He) true absent coeffs ≡ replicate 256 129)
     × (yParts (replicate 16 b.Ve) true absent coeffs ≡ rows 16 16 firstColumn)
 unfolding wrap narrow clampTo table rows turns absent dcLookup acLookup clampIndex dcFactor acFactor dequant whtPass whtColumn whtRound whtAt iwht
-    pass column passes bySin byCos rounded residue idct edgeOr pixelOr aboveOr leftOr total dcPixel tm dcBlock predictY subHe subVe subLd subVl subPixel predictB
+    pass column passes bySin byCos rounded residue idct edgeOr pixelOr aboveOr leftOr sumOf dcPixel tm dcBlock predictY subHe subVe subLd subVl subPixel predictB
     laid blank copiedDown bordered startOf aboveIn leftIn topLeftIn subPrediction subPixels putBlock subBlock walked lumaOf yParts
 known-pictures a l p coeffs =
     (refl, refl, refl, refl, refl, refl, refl, refl, refl, refl, refl, refl, refl, refl, refl, refl, refl, refl, refl, refl, refl, refl, refl, refl, refl, refl, refl, refl, refl)

@@ -28,15 +28,15 @@ unfoldable pub leftOr : ℕ → List ℕ → Bool → List ℕ
 leftOr n left there = edgeOr n 129 left there
 
 -- ---- one pixel, at row r and column c
-unfoldable pub total : List ℕ → ℕ
-total [] = 0
-total (x ∷ xs) = x + total xs
+unfoldable pub sumOf : List ℕ → ℕ
+sumOf [] = 0
+sumOf (x ∷ xs) = x + sumOf xs
 
 -- DC: the mean of the edges that are there, rounded; `>> log2 (2 n)` is `/ (2 n)`
 unfoldable pub dcPixel : ℕ → List ℕ → Bool → List ℕ → Bool → ℕ
-dcPixel n above true left true = (total above + total left + n) / (2 * n)
-dcPixel n above true left false = (total above + n / 2) / n
-dcPixel n above false left true = (total left + n / 2) / n
+dcPixel n above true left true = (sumOf above + sumOf left + n) / (2 * n)
+dcPixel n above true left false = (sumOf above + n / 2) / n
+dcPixel n above false left true = (sumOf left + n / 2) / n
 dcPixel n above false left false = 128
 
 abbrev pub vPixel : List ℕ → ℕ → ℕ → ℕ

@@ -15,7 +15,7 @@ use lib.ListN.{getD, take}
 use Rattle.lists.specs.Lists.{rows, pick}
 use Rattle.macroblock.specs.declared.modes.IntraBmode.{IntraBmode}
 use Rattle.macroblock.specs.declared.modes.IntraBmode.the-variants as b
-use Rattle.rfc6386.specs.Edges.{tmPixel, total}
+use Rattle.rfc6386.specs.Edges.{tmPixel, sumOf}
 
 -- (x + y + 1) >> 1
 abbrev pub avg2 : ℕ → ℕ → ℕ
@@ -49,7 +49,7 @@ abbrev pub even : ℕ → Bool
 even z = eqb (z % 2) 0
 
 unfoldable pub subDc : List ℕ → List ℕ → ℕ → ℕ → ℕ
-subDc a l r c = (4 + total (take 4 a) + total l) / 8
+subDc a l r c = (4 + sumOf (take 4 a) + sumOf l) / 8
 
 -- with P before A0
 unfoldable pub subVe : List ℕ → ℕ → ℕ → ℕ → ℕ

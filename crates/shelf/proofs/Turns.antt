@@ -4,6 +4,7 @@ use Prim.Native.Nat.{ℕ, zero, suc, _+_, _*_, _≤_}
 use mathlib.Core.Path.{_≡_, refl, sym, ap, _∙_}
 use mathlib.Core.Bool.{true}
 use mathlib.Core.List.{List, [], _∷_, _++_, append-assoc, append-nil}
+use native.Mathlib.Nat.{mul-zero, mul-suc}
 use native.Mathlib.Numerals.{add-one}
 use native.Mathlib.Omega.{arith}
 use borrow.Author.Tests.{eqb-true}
@@ -44,6 +45,12 @@ fits n subs coeffs out replies clipped e =
       replies-fit = eqb-true replies n (left-holds (eqb replies n) (eqb clipped 1) e₃);
       clipped-fits = eqb-true clipped 1 (right-holds (eqb replies n) (eqb clipped 1) e₃);
     }
+
+-- ---- lists of w each, one after another
+pub joined-length : (w : ℕ) (f : ℕ → List ℕ) → ((k : ℕ) → length (f k) ≡ w) → (n : ℕ) → length (joined n f) ≡ w * n
+unfolding joined
+joined-length w f size zero = sym (mul-zero w)
+joined-length w f size (suc n) = length-append (joined n f) (f n) ∙ rw (joined-length w f size n, size n, mul-suc w n)
 
 -- ---- what the first k items make of the lists
 module _ (item : ℕ → ReconstructedMb) where
@@ -92,19 +99,13 @@ module _ (item : ℕ → ReconstructedMb) where
     count-turn p q = rw (count-next k l, ← p, ← e) q
 
   module _ (shape : (k : ℕ) → Shape (item k)) where
-    joined-length : (n : ℕ) → length (joined n (λ k. planesOf (item k))) ≡ 384 * n
-    unfolding joined
-    joined-length zero = refl
-    joined-length (suc n) =
-        length-append (joined n (λ k. planesOf (item k))) (planesOf (item n)) ∙ omega (arith, joined-length n, planes-length (shape n))
-
     -- the first k items one after another, and what stood behind them
     out-so-far : (n : ℕ) (out : List ℕ) → 384 * n ≤ length out → outAfter n out ≡ joined n (λ k. planesOf (item k)) ++ drop (384 * n) out
     unfolding outAfter turns joined
     out-so-far zero out h = refl
     out-so-far (suc n) out h =
         let f : List ℕ = joined n (λ k. planesOf (item k)) in
-        let l : length f ≡ 384 * n = joined-length n in
+        let l : length f ≡ 384 * n = joined-length 384 (λ k. planesOf (item k)) (λ k. planes-length (shape k)) n in
         let g : 384 * n + 384 ≡ 384 * suc n = omega arith in
         ap (λ (m : List ℕ). putMid (384 * n) 384 m (planesOf (item n))) (out-so-far n out (omega (arith, h)))
         ∙ rw (take-at f (drop (384 * n) out) (384 * n) l, drop-at f (drop (384 * n) out) (384 * n) l)

@@ -7,17 +7,15 @@ use mathlib.Core.Bool.{Bool, true, false}
 use mathlib.Core.List.{List, [], _∷_, _++_}
 use lib.Dec.{eqb}
 use lib.IntN.{ℤ}
-use lib.ListN.{length, getD, take, drop}
+use lib.ListN.{length, getD, take}
 use Rattle.lists.specs.Lists.{table, pick, both}
-use Rattle.slices.specs.Copies.{_beside_}
-use Rattle.macroblock.specs.Reply.{done, wrongLength, unknownByte}
+use Rattle.slices.specs.Copies.{itemOf, _beside_}
+use Rattle.macroblock.specs.Reply.{done, wrongLength}
 use Rattle.macroblock.specs.declared.modes.IntraYMode.the-variants as y
 use Rattle.macroblock.specs.declared.modes.IntraUvMode.the-variants as uv
 use Rattle.clipping.specs.Clipped.{total}
-use Rattle.record_bytes.specs.Bytes.{marksKnown, recordOf}
 use Rattle.reconstruct.specs.declared.ReconstructedMb.{ReconstructedMb}
-use Rattle.reconstruct.specs.Answers.{refusal}
-use Rattle.drawing.specs.Drawn.{planesOf, drawnWith, drawn}
+use Rattle.drawing.specs.Drawn.{planesOf, drawnWith, drawnBytes}
 use Rattle.shelf.specs.declared.Job.{Job}
 
 -- f 0 .. f (n - 1), one after another
@@ -67,7 +65,7 @@ noJob =
 
 unfoldable pub jobDrawn : Job → List ℕ → List ℤ → ℕ → ReconstructedMb
 jobDrawn job subs coeffs k =
-    drawnWith (job .modes) (take 16 (drop (16 * k) subs)) true (job .neighbors) (take 400 (drop (400 * k) coeffs))
+    drawnWith (job .modes) (itemOf 16 k subs) true (job .neighbors) (itemOf 400 k coeffs)
 
 unfoldable pub jobAt : List Job → List ℕ → List ℤ → ℕ → ReconstructedMb
 jobAt jobs subs coeffs k = jobDrawn (getD jobs k noJob) subs coeffs k
@@ -83,14 +81,9 @@ unfoldable pub fewAnswer : List Job → ℕ → List ℕ → List ℤ → List �
 fewAnswer jobs count subs coeffs out replies clipped = shelfAnswer (take count jobs) subs coeffs out replies clipped
 
 -- ---- from bytes: three mode bytes and 81 record bytes an item
-unfoldable pub bytesDrawn : ℕ → ℕ → ℕ → List ℕ → List ℕ → List ℤ → ReconstructedMb
-bytesDrawn luma chroma skip edges subs coeffs =
-    pick (marksKnown edges) (drawn luma chroma skip subs true (recordOf edges) coeffs) (refusal unknownByte)
-
 unfoldable pub bytesAt : List ℕ → List ℕ → List ℕ → List ℤ → ℕ → ReconstructedMb
 bytesAt modes records subs coeffs k =
-    bytesDrawn (getD modes (3 * k) 0) (getD modes (3 * k + 1) 0) (getD modes (3 * k + 2) 0)
-    (take 81 (drop (81 * k) records)) (take 16 (drop (16 * k) subs)) (take 400 (drop (400 * k) coeffs))
+    drawnBytes (getD modes (3 * k) 0) (getD modes (3 * k + 1) 0) (getD modes (3 * k + 2) 0) (itemOf 16 k subs) true (itemOf 81 k records) (itemOf 400 k coeffs)
 
 -- as many items as there are replies
 unfoldable pub bytesAnswer : List ℕ → List ℕ → List ℕ → List ℤ → List ℕ → List ℕ → List ℕ → ℕ × (List ℕ × (List ℕ × List ℕ))

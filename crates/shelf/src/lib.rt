@@ -5,7 +5,7 @@ ghost use Prim.Native.Nat.{_+_, _*_, _<_, _≤_};
 ghost use lib.Dec.{eqb};
 ghost use lib.ListN.{length};
 ghost use Rattle.slices.specs.Copies.{_beside_};
-ghost use Rattle.shelf.specs.Shelf.{lengthsFit, jobDrawn, shelfAnswer, fewAnswer, bytesDrawn, bytesAt, bytesAnswer};
+ghost use Rattle.shelf.specs.Shelf.{lengthsFit, jobDrawn, shelfAnswer, fewAnswer, bytesAt, bytesAnswer};
 ghost use Rattle.shelf.specs.Steps.{planned, begun, Ready, Put, atMost32};
 use macroblock::MbModes;
 use macroblock::MbNeighbors;
@@ -182,24 +182,6 @@ pub fn shelf_few(
     shelf(&jobs[..n], sub_modes, coeffs, out, replies, clipped)
 }
 
-// A macroblock from its bytes; a mark of its record that says nothing is reply 8 too.
-fn draw_bytes(
-    luma: u8,
-    chroma: u8,
-    skip: u8,
-    edges: [u8; 81],
-    sub_modes: [u8; 16],
-    coeffs: &[i16],
-) -> ReconstructedMb
-    ensures { λ r. ⌜ r ≡ bytesDrawn luma chroma skip edges «sub_modes» (now (coeffs .entry)) ⌝ }
-{
-    if !record_bytes::marks_known(edges) {
-        return reconstruct::refused(reply::UNKNOWN_BYTE);
-    }
-    let neighbors = record_bytes::neighbors_of(edges);
-    drawing::draw(luma, chroma, skip, sub_modes, true, neighbors, coeffs)
-}
-
 fn put_bytes(
     modes: &[u8],
     records: &[u8],
@@ -221,7 +203,7 @@ fn put_bytes(
     let edges = slices::record_of(&records[81 * i..81 * i + 81]);
     let subs = slices::sixteen(&sub_modes[16 * i..16 * i + 16]);
     let levels = &coeffs[400 * i..400 * i + 400];
-    let drawn = draw_bytes(luma, chroma, skip, edges, subs, levels);
+    let drawn = drawing::draw_bytes(luma, chroma, skip, subs, true, edges, levels);
     put_item(drawn, out, replies, clipped, i);
 }
 

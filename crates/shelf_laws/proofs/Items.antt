@@ -1,19 +1,20 @@
 -- What stands for item k in the lists that a shelf writes. Assumes nothing.
 use Prim.Native.Nat.{ℕ, zero, suc, _+_, _*_, _<_, _≤_}
-use mathlib.Core.Path.{_≡_, refl, sym, ap, _∙_}
+use mathlib.Core.Path.{_≡_, refl, ap, _∙_}
 use mathlib.Core.List.{List, [], _∷_}
 use mathlib.Core.Logic.{⊎-elim}
-use native.Mathlib.Nat.{eq-or-lt-of-le, le-of-eq, mul-zero, mul-suc, mul-le-mul-left}
+use native.Mathlib.Nat.{eq-or-lt-of-le, le-of-eq, mul-suc, mul-le-mul-left}
 use native.Mathlib.Omega.{arith}
-use lib.ListN.{length, take, drop, length-append, length-drop}
+use lib.ListN.{length, take, drop, length-drop}
 use lib.Seq.{drop-at, take-all, take-append-le, drop-append-le}
+use Rattle.slices.specs.Copies.{itemOf}
 use Rattle.lists.proofs.Table.{table-ext}
 use Rattle.slices.proofs.Pairs.{pair}
 use Rattle.clipping.proofs.Total.{total-ext}
 use Rattle.reconstruct.specs.declared.ReconstructedMb.{ReconstructedMb}
 use Rattle.drawing.specs.Drawn.{planesOf}
 use Rattle.shelf.specs.Shelf.{joined, shelved}
-use Rattle.shelf_laws.specs.Words.{itemOf}
+use Rattle.shelf.proofs.Turns.{joined-length}
 
 -- ---- shelves of equal items are equal
 joined-ext : (n : ℕ) (f g : ℕ → List ℕ) → ((k : ℕ) → k < n → f k ≡ g k) → joined n f ≡ joined n g
@@ -31,11 +32,6 @@ shelved-ext n f g h =
 
 -- ---- the bytes of item k, where every item has w of them
 module _ (w : ℕ) (f : ℕ → List ℕ) (size : (k : ℕ) → length (f k) ≡ w) where
-  joined-length : (n : ℕ) → length (joined n f) ≡ w * n
-  unfolding joined
-  joined-length zero = sym (mul-zero w)
-  joined-length (suc n) = length-append (joined n f) (f n) ∙ rw (joined-length n, size n, mul-suc w n)
-
   later : (n k : ℕ) → k ≤ n → w * k ≤ w * n
   later n k h = mul-le-mul-left w h
 
@@ -46,9 +42,9 @@ module _ (w : ℕ) (f : ℕ → List ℕ) (size : (k : ℕ) → length (f k) ≡
       ⊎-elim
       (λ e.
       rw e
-      (ap (λ (l : List ℕ). take w l) (drop-at (joined n f) (f n) (w * n) (joined-length n)) ∙ take-all w (f n) (le-of-eq (size n))))
+      (ap (λ (l : List ℕ). take w l) (drop-at (joined n f) (f n) (w * n) (joined-length w f size n)) ∙ take-all w (f n) (le-of-eq (size n))))
       (λ l.
-      let whole : w * k + w ≤ length (joined n f) = (rw (joined-length n, ← mul-suc w k) (later n (suc k) l)) in
+      let whole : w * k + w ≤ length (joined n f) = (rw (joined-length w f size n, ← mul-suc w k) (later n (suc k) l)) in
       ap (λ (m : List ℕ). take w m) (drop-append-le (w * k) (joined n f) (f n) (omega (arith, whole)))
       ∙ take-append-le w (drop (w * k) (joined n f)) (f n) (rw length-drop (omega (arith, whole))) ∙ item-at n k l)
       (eq-or-lt-of-le below)

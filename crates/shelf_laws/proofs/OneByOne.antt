@@ -13,7 +13,7 @@ use lib.ListN.{length, getD, drop, replicate}
 use lib.Seq.{getD-take, getD-drop}
 use Rattle.lists.specs.Lists.{pick}
 use Rattle.lists.proofs.Table.{table-at}
-use Rattle.slices.specs.Copies.{_beside_}
+use Rattle.slices.specs.Copies.{itemOf, _beside_}
 use Rattle.slices.proofs.Copied.{or-zeros-fit}
 use Rattle.slices.proofs.Parts.{part-length}
 use Rattle.macroblock.specs.Reply.{unknownByte}
@@ -22,13 +22,12 @@ use Rattle.clipping.proofs.Total.{total-ext}
 use Rattle.record_bytes.specs.Bytes.{marksKnown}
 use Rattle.reconstruct.specs.declared.ReconstructedMb.{ReconstructedMb}
 use Rattle.reconstruct.specs.Answers.{refusal}
-use Rattle.drawing.specs.Drawn.{planesOf}
+use Rattle.drawing.specs.Drawn.{planesOf, drawnBytes}
 use Rattle.drawing.proofs.Shape.{planes-length}
 use Rattle.macroblock_slices.specs.Answers.{subModesFit, mbAnswer}
 use Rattle.macroblock_slices.specs.Answers.{lengthsFit as mbFit}
-use Rattle.shelf.specs.Shelf.{shelved, lengthsFit, bytesDrawn, bytesAt, bytesAnswer}
+use Rattle.shelf.specs.Shelf.{shelved, lengthsFit, bytesAt, bytesAnswer}
 use Rattle.shelf.proofs.Drawn.{bytes-shape}
-use Rattle.shelf_laws.specs.Words.{itemOf}
 use Rattle.shelf_laws.proofs.Items.{item-at}
 
 -- ---- one item
@@ -55,7 +54,7 @@ module _ (modes records subs : List ℕ) (coeffs : List ℤ) (out clipped : List
     fit = rw (part-length 3 (3 * k) modes m, part-length 16 (16 * k) subs s, part-length 81 (81 * k) records r, part-length 400 (400 * k) coeffs c, o, one) refl
 
     pub item-alone : alone ≡ told (bytesAt modes records subs coeffs k)
-    unfolding mbAnswer bytesAt bytesDrawn
+    unfolding mbAnswer bytesAt drawnBytes
     item-alone =
         rw (
           fit,

@@ -8,6 +8,7 @@ use native.Mathlib.Omega.{arith}
 use borrow.Author.Tests.{eq-eqb}
 use lib.IntN.{ℤ}
 use lib.ListN.{length, drop, replicate, length-drop}
+use Rattle.slices.specs.Copies.{itemOf}
 use Rattle.lists.specs.Lists.{pick}
 use Rattle.macroblock.specs.Reply.{done, unknownByte}
 use Rattle.macroblock.specs.declared.modes.MbModes.{MbModes}
@@ -18,7 +19,6 @@ use Rattle.reconstruct.specs.Answers.{refusal, wholeOf, partsOf, nonB, walkB}
 use Rattle.drawing.specs.Drawn.{planesOf, subModesOf, drawnB, drawnIn, drawnWith}
 use Rattle.shelf.specs.declared.Job.{Job}
 use Rattle.shelf.specs.Shelf.{jobDrawn}
-use Rattle.shelf_laws.specs.Words.{itemOf}
 
 -- what a refused item writes
 pub refused-zeros : (number : ℕ) → planesOf (refusal number) ≡ replicate 384 0

@@ -7,35 +7,36 @@ use mathlib.Core.List.{List}
 use borrow.Author.Tests.{eq-eqb}
 use lib.IntN.{ℤ}
 use lib.ListN.{length, getD}
+use Rattle.slices.specs.Copies.{itemOf}
 use Rattle.lists.specs.Lists.{pick}
 use Rattle.lists.proofs.Table.{table-length, table-at}
 use Rattle.macroblock.specs.Reply.{unknownByte}
 use Rattle.record_bytes.specs.Bytes.{marksKnown}
 use Rattle.reconstruct.specs.declared.ReconstructedMb.{ReconstructedMb}
 use Rattle.reconstruct.specs.Answers.{refusal}
-use Rattle.drawing.specs.Drawn.{modesKnown, drawnWith, drawn}
+use Rattle.drawing.specs.Drawn.{modesKnown, drawnWith, drawn, drawnBytes}
 use Rattle.shelf.specs.declared.Job.{Job}
-use Rattle.shelf.specs.Shelf.{noJob, jobDrawn, jobAt, shelfAnswer, bytesDrawn, bytesAt, bytesAnswer}
-use Rattle.shelf_laws.specs.Words.{itemOf, jobOf, jobsOf, Known}
+use Rattle.shelf.specs.Shelf.{noJob, jobDrawn, jobAt, shelfAnswer, bytesAt, bytesAnswer}
+use Rattle.shelf_laws.specs.Words.{jobOf, jobsOf, Known}
 use Rattle.shelf_laws.proofs.Items.{shelved-ext}
 
 module _ (modes records subs : List ℕ) (coeffs : List ℤ) (k : ℕ) where
   -- an item whose bytes all say something is its job
   pub item-same : modesKnown (getD modes (3 * k) 0) (getD modes (3 * k + 1) 0) (getD modes (3 * k + 2) 0) ≡ true
       → marksKnown (itemOf 81 k records) ≡ true → bytesAt modes records subs coeffs k ≡ jobDrawn (jobOf modes records k) subs coeffs k
-  unfolding bytesAt bytesDrawn drawn jobDrawn drawnWith jobOf
+  unfolding bytesAt drawnBytes drawn jobDrawn drawnWith jobOf
   item-same e f = rw (e, f) refl
 
   -- a mark that says nothing refuses its item
   pub unknown-mark : marksKnown (itemOf 81 k records) ≡ false → bytesAt modes records subs coeffs k ≡ refusal unknownByte
-  unfolding bytesAt bytesDrawn
+  unfolding bytesAt drawnBytes
   unknown-mark f = rw f refl
 
   -- and so does a mode or skip byte
   pub unknown-mode : length (itemOf 400 k coeffs) ≡ 400
       → modesKnown (getD modes (3 * k) 0) (getD modes (3 * k + 1) 0) (getD modes (3 * k + 2) 0) ≡ false
       → bytesAt modes records subs coeffs k ≡ refusal unknownByte
-  unfolding bytesAt bytesDrawn drawn
+  unfolding bytesAt drawnBytes drawn
   unknown-mode h e = either (marksKnown (itemOf 81 k records)) (rw (e, eq-eqb _ _ h) refl)
     where
       either : (b : Bool) {x : ReconstructedMb} → x ≡ refusal unknownByte → pick b x (refusal unknownByte) ≡ refusal unknownByte

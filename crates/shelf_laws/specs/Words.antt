@@ -1,17 +1,14 @@
--- The words of the theorems on a shelf: item k of each list, the job that an item's bytes stand for, and lists whose bytes all say something.
+-- The words of the theorems on a shelf: the job that an item's bytes stand for, and lists whose bytes all say something.
 use Prim.Native.Nat.{ℕ, _+_, _*_, _<_}
 use mathlib.Core.Bool.{true}
 use mathlib.Core.Path.{_≡_}
 use mathlib.Core.List.{List}
-use lib.ListN.{getD, take, drop}
+use lib.ListN.{getD}
 use Rattle.lists.specs.Lists.{table}
+use Rattle.slices.specs.Copies.{itemOf}
 use Rattle.record_bytes.specs.Bytes.{marksKnown, recordOf}
 use Rattle.drawing.specs.Drawn.{modesKnown, modesOf}
 use Rattle.shelf.specs.declared.Job.{Job}
-
--- item k of a list of n an item
-abbrev pub itemOf : {A : Type 0} → ℕ → ℕ → List A → List A
-itemOf n k l = take n (drop (n * k) l)
 
 -- the job of an item's mode bytes and record bytes
 unfoldable pub jobOf : List ℕ → List ℕ → ℕ → Job

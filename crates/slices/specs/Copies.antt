@@ -1,9 +1,9 @@
 -- Copies between lists of equal lengths, and a reply beside what was written.
-use Prim.Native.Nat.{ℕ}
+use Prim.Native.Nat.{ℕ, _*_}
 use mathlib.Core.Bool.{Bool}
 use mathlib.Core.List.{List}
 use lib.Dec.{eqb}
-use lib.ListN.{length, replicate}
+use lib.ListN.{length, take, drop, replicate}
 use Rattle.lists.specs.Lists.{pick}
 
 module _ {A : Type 0} where
@@ -14,6 +14,10 @@ module _ {A : Type 0} where
   -- the n elements of `from`, or n times z where it has another number of them
   unfoldable pub orZeros : A → ℕ → List A → List A
   orZeros z n from = pick (eqb n (length from)) from (replicate n z)
+
+  -- item k of a list that has n for each item
+  abbrev pub itemOf : ℕ → ℕ → List A → List A
+  itemOf n k s = take n (drop (n * k) s)
 
   -- a slice of n
   abbrev pub sized : ℕ → List A → Bool

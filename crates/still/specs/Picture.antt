@@ -7,7 +7,7 @@ use lib.Dec.{eqb}
 use lib.IntN.{ℤ}
 use lib.ListN.{getD, take, drop, replicate}
 use Rattle.lists.specs.Lists.{turns, pick}
-use Rattle.slices.specs.Copies.{_beside_}
+use Rattle.slices.specs.Copies.{itemOf, _beside_}
 use Rattle.macroblock.specs.Reply.{done}
 use Rattle.clipping.specs.Clipped.{total}
 use Rattle.canvas.specs.Drawn.{drawnInto, clippedInto}
@@ -31,7 +31,7 @@ module _ (w h : ℕ) (modes subs : List ℕ) (coeffs : List ℤ) (right : ℕ �
   unfoldable pub drawnAt : ℕ → List ℕ → List ℕ → List ℕ → ℕ × (List ℕ × (List ℕ × List ℕ))
   drawnAt k y u v =
       drawnInto w h (k % w) (k / w) (getD modes (3 * k) 0) (getD modes (3 * k + 1) 0) (getD modes (3 * k + 2) 0)
-      (take 16 (drop (16 * k) subs)) (right (k / w) y) (take 400 (drop (400 * k) coeffs)) y u v
+      (itemOf 16 k subs) (right (k / w) y) (itemOf 400 k coeffs) y u v
 
   -- a turn of the drawing
   unfoldable pub turn : ℕ → Canvas → Canvas
@@ -51,7 +51,7 @@ module _ (w h : ℕ) (modes subs : List ℕ) (coeffs : List ℤ) (right : ℕ �
   unfoldable pub countAt : ℕ → List ℕ → List ℕ → List ℕ → ℕ
   countAt k y u v =
       clippedInto w h (k % w) (k / w) (getD modes (3 * k) 0) (getD modes (3 * k + 1) 0) (getD modes (3 * k + 2) 0)
-      (take 16 (drop (16 * k) subs)) (right (k / w) y) (take 400 (drop (400 * k) coeffs)) y u v
+      (itemOf 16 k subs) (right (k / w) y) (itemOf 400 k coeffs) y u v
 
   unfoldable pub countIn : ℕ → Canvas → ℕ
   countIn k d = pick (eqb (d .reply) done) (countAt k (d .y) (d .u) (d .v)) 0

@@ -2,7 +2,7 @@
 //! whole shelf that the count is the sum of its items' and nothing else is written.
 
 use crate::library;
-use crate::tally::{Cells, Counts, Run, Tally};
+use crate::tally::{around, Cells, Counts, Run, Tally};
 use crate::walkers::describe;
 use judge::data;
 use judge::expected;
@@ -173,29 +173,10 @@ fn refused(r: &mut Random, run: &mut Run) {
     for count in [0, 1, 2, 5] {
         let mut right = each.map(|each| each * count);
         right[6] = 1;
-        let around = |k: usize| {
-            [
-                0,
-                right[k].saturating_sub(each[k]),
-                right[k].saturating_sub(1),
-                right[k],
-                right[k] + 1,
-                right[k] + each[k],
-            ]
-        };
-        for first in 0..7 {
-            for second in 0..7 {
-                for x in around(first) {
-                    for y in around(second) {
-                        let mut lengths = right;
-                        lengths[first] = x;
-                        lengths[second] = y;
-                        let equal = lent(r, &stock, lengths);
-                        tally.count(equal, || format!("lengths {lengths:?}"));
-                    }
-                }
-            }
-        }
+        around(right, each, |lengths| {
+            let equal = lent(r, &stock, lengths);
+            tally.count(equal, || format!("lengths {lengths:?}"));
+        });
     }
     tally.end(run);
 }

@@ -2,7 +2,7 @@
 //! damaged one that the macroblocks before the wrong one are finished and every other byte is as it was.
 
 use crate::library;
-use crate::tally::{Counts, Run, Tally};
+use crate::tally::{around, Counts, Run, Tally};
 use judge::data;
 use judge::random::Random;
 use judge::still::{still, Planes, Still};
@@ -195,29 +195,7 @@ fn refused(r: &mut Random, run: &mut Run) {
     }
     for (cols, rows) in [(1, 1), (2, 1), (1, 2), (3, 4)] {
         let right = fit(cols * rows, 4 * (rows - 1), 1);
-        let each = [3, 16, 400, 4, 256, 64, 64, 1];
-        for first in 0..8 {
-            for second in 0..8 {
-                let around = |k: usize| {
-                    [
-                        0,
-                        right[k].saturating_sub(each[k]),
-                        right[k].saturating_sub(1),
-                        right[k],
-                        right[k] + 1,
-                        right[k] + each[k],
-                    ]
-                };
-                for x in around(first) {
-                    for y in around(second) {
-                        let mut lengths = right;
-                        lengths[first] = x;
-                        lengths[second] = y;
-                        case((cols, rows), lengths);
-                    }
-                }
-            }
-        }
+        around(right, [3, 16, 400, 4, 256, 64, 64, 1], |lengths| case((cols, rows), lengths));
     }
     tally.end(run);
 }

@@ -29,6 +29,26 @@ impl Run {
     }
 }
 
+/// Tries lengths around those that fit, two slices at a time: none, an item or an element too few, the right length, an
+/// element or an item too many.
+pub fn around<const N: usize>(right: [usize; N], each: [usize; N], mut case: impl FnMut([usize; N])) {
+    let near = |k: usize| {
+        [0, right[k].saturating_sub(each[k]), right[k].saturating_sub(1), right[k], right[k] + 1, right[k] + each[k]]
+    };
+    for first in 0..N {
+        for second in 0..N {
+            for x in near(first) {
+                for y in near(second) {
+                    let mut lengths = right;
+                    lengths[first] = x;
+                    lengths[second] = y;
+                    case(lengths);
+                }
+            }
+        }
+    }
+}
+
 /// The count of a function's comparisons.
 pub struct Tally {
     name: &'static str,

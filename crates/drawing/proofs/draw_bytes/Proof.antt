@@ -1,16 +1,16 @@
--- `shelf::draw_bytes` meets its contract. Assumes nothing.
+-- `drawing::draw_bytes` meets its contract. Assumes nothing.
 use mathlib.Core.Path.{sym, _∙_}
 use borrow.Author.Tests.{not-true, not-false}
-use Rattle.shelf.specs.Shelf.{bytesDrawn}
-use Rattle.shelf.proofs.draw_bytes.Statement.{statement}
-use Rattle.shelf.proofs.draw_bytes.Tie as tie
+use Rattle.drawing.specs.Drawn.{drawnBytes}
+use Rattle.drawing.proofs.draw_bytes.Statement.{statement}
+use Rattle.drawing.proofs.draw_bytes.Tie as tie
 
 returns : tie.Need-returns
-unfolding bytesDrawn
+unfolding drawnBytes
 returns c = rw (sym (c .before .before .marks-known .ensures) ∙ not-true _ (c .before .if1 .taken)) (c .refused .ensures)
 
 returns-2 : tie.Need-returns-2
-unfolding bytesDrawn
+unfolding drawnBytes
 returns-2 c =
     let neighbors-of = c .before in
     let if1 = neighbors-of .before in

@@ -11,10 +11,12 @@ use lib.ListN.{getD}
 use Rattle.macroblock.specs.declared.modes.IntraYMode.{IntraYMode}
 use Rattle.macroblock.specs.declared.modes.IntraUvMode.{IntraUvMode}
 use Rattle.macroblock.specs.declared.modes.IntraBmode.{IntraBmode}
+use Rattle.macroblock.specs.declared.neighbors.LumaEdges.{LumaEdges}
+use Rattle.macroblock.specs.declared.neighbors.ChromaEdges.{ChromaEdges}
 use Rattle.macroblock.specs.declared.neighbors.MbNeighbors.{MbNeighbors}
 use Rattle.rfc6386.specs.Dct.{residue}
-use Rattle.rfc6386.specs.Walk.{blockAt, seeded, yPrediction, uPrediction, vPrediction, startOf, subPrediction, walked}
-use Rattle.clipping.specs.Clipped.{total, over, blockClipped, clippedAt, blocksClipped, planeClipped, yWholeClipped, uClipped, vClipped, subClipped, walkedClipped, yPartsClipped}
+use Rattle.rfc6386.specs.Walk.{blockAt, seeded, yPrediction, uvPrediction, startOf, subPrediction, walked}
+use Rattle.clipping.specs.Clipped.{total, over, blockClipped, clippedAt, blocksClipped, planeClipped, yWholeClipped, uvClipped, subClipped, walkedClipped, yPartsClipped}
 use Rattle.clipping.proofs.Total.{total-≤}
 use Rattle.clipping.proofs.Counted.{over-≤}
 use Rattle.clipping.proofs.Skipped.{plane-skipped}
@@ -44,17 +46,13 @@ plane-≤ n true p x = rw (plane-skipped n p x) (omega arith)
 plane-≤ n false p x =
     total-≤ n n _ λ r h. sums-≤ n (λ c. getD p (r * n + c) 0) (λ c. residue (x (n / 4 * (r / 4) + c / 4)) (r % 4) (c % 4))
 
-pub y-whole-≤ : (mode : IntraYMode) (skip : Bool) (n : MbNeighbors) (coeffs : List ℤ) → yWholeClipped mode skip n coeffs ≤ 256
+pub y-whole-≤ : (mode : IntraYMode) (skip : Bool) (n : LumaEdges) (coeffs : List ℤ) → yWholeClipped mode skip n coeffs ≤ 256
 unfolding yWholeClipped
 y-whole-≤ mode skip n coeffs = plane-≤ 16 skip (yPrediction mode n) (seeded coeffs)
 
-pub u-≤ : (mode : IntraUvMode) (skip : Bool) (n : MbNeighbors) (coeffs : List ℤ) (base : ℕ) → uClipped mode skip n coeffs base ≤ 64
-unfolding uClipped
-u-≤ mode skip n coeffs base = plane-≤ 8 skip (uPrediction mode n) (blockAt coeffs base)
-
-pub v-≤ : (mode : IntraUvMode) (skip : Bool) (n : MbNeighbors) (coeffs : List ℤ) (base : ℕ) → vClipped mode skip n coeffs base ≤ 64
-unfolding vClipped
-v-≤ mode skip n coeffs base = plane-≤ 8 skip (vPrediction mode n) (blockAt coeffs base)
+pub uv-≤ : (mode : IntraUvMode) (skip : Bool) (n : ChromaEdges) (coeffs : List ℤ) (base : ℕ) → uvClipped mode skip n coeffs base ≤ 64
+unfolding uvClipped
+uv-≤ mode skip n coeffs base = plane-≤ 8 skip (uvPrediction mode n) (blockAt coeffs base)
 
 -- n sub-blocks of mode B
 pub walked-≤ : (n : ℕ) (modes : List IntraBmode) (skip : Bool) (coeffs : List ℤ) (b : List ℕ) → walkedClipped n modes skip coeffs b ≤ n * 16
@@ -62,17 +60,17 @@ unfolding walkedClipped
 walked-≤ n modes skip coeffs b =
     total-≤ 16 n _ λ k h. sub-≤ skip (subPrediction modes k (walked k modes skip coeffs b)) (blockAt coeffs 0 k)
 
-pub y-parts-≤ : (modes : List IntraBmode) (skip : Bool) (n : MbNeighbors) (coeffs : List ℤ) → yPartsClipped modes skip n coeffs ≤ 256
+pub y-parts-≤ : (modes : List IntraBmode) (skip : Bool) (n : LumaEdges) (coeffs : List ℤ) → yPartsClipped modes skip n coeffs ≤ 256
 unfolding yPartsClipped
 y-parts-≤ modes skip n coeffs = walked-≤ 16 modes skip coeffs (startOf n)
 
 -- ---- a macroblock, in a 16x16 mode and in mode B
 module _ (uv : IntraUvMode) (skip : Bool) (n : MbNeighbors) (coeffs : List ℤ) (u v : ℕ) where
-  pub macroblock-≤ : (mode : IntraYMode) → yWholeClipped mode skip n coeffs + uClipped uv skip n coeffs u + vClipped uv skip n coeffs v ≤ 384
-  macroblock-≤ mode = omega (arith, y-whole-≤ mode skip n coeffs, u-≤ uv skip n coeffs u, v-≤ uv skip n coeffs v)
+  pub macroblock-≤ : (mode : IntraYMode) → yWholeClipped mode skip (n .y) coeffs + uvClipped uv skip (n .u) coeffs u + uvClipped uv skip (n .v) coeffs v ≤ 384
+  macroblock-≤ mode = omega (arith, y-whole-≤ mode skip (n .y) coeffs, uv-≤ uv skip (n .u) coeffs u, uv-≤ uv skip (n .v) coeffs v)
 
-  pub macroblock-B-≤ : (modes : List IntraBmode) → yPartsClipped modes skip n coeffs + uClipped uv skip n coeffs u + vClipped uv skip n coeffs v ≤ 384
-  macroblock-B-≤ modes = omega (arith, y-parts-≤ modes skip n coeffs, u-≤ uv skip n coeffs u, v-≤ uv skip n coeffs v)
+  pub macroblock-B-≤ : (modes : List IntraBmode) → yPartsClipped modes skip (n .y) coeffs + uvClipped uv skip (n .u) coeffs u + uvClipped uv skip (n .v) coeffs v ≤ 384
+  macroblock-B-≤ modes = omega (arith, y-parts-≤ modes skip (n .y) coeffs, uv-≤ uv skip (n .u) coeffs u, uv-≤ uv skip (n .v) coeffs v)
 
 -- ---- the first n macroblocks of a still of w by h, which are at most 1024 each: 402,653,184 is 1024 * 1024 * 384
 module _ (n w h : ℕ) (count : ℕ → ℕ) (p : w ≤ 1024) (q : h ≤ 1024) (l : n ≤ w * h) (m : (k : ℕ) → k < n → count k ≤ 384) where

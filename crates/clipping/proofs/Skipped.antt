@@ -10,7 +10,7 @@ use Rattle.macroblock.specs.declared.modes.IntraUvMode.{IntraUvMode}
 use Rattle.macroblock.specs.declared.modes.IntraBmode.{IntraBmode}
 use Rattle.macroblock.specs.declared.neighbors.MbNeighbors.{MbNeighbors}
 use Rattle.rfc6386.specs.Walk.{startOf}
-use Rattle.clipping.specs.Clipped.{planeClipped, yWholeClipped, uClipped, vClipped, subClipped, walkedClipped, yPartsClipped}
+use Rattle.clipping.specs.Clipped.{planeClipped, yWholeClipped, uvClipped, subClipped, walkedClipped, yPartsClipped}
 use Rattle.clipping.proofs.Total.{total-none}
 
 pub plane-skipped : (n : ℕ) (p : List ℕ) (x : ℕ → ℕ → ℤ) → planeClipped n true p x ≡ 0
@@ -23,10 +23,10 @@ walked-skipped n modes coeffs b = total-none n
 
 -- a macroblock, in a 16x16 mode and in mode B
 module _ (uv : IntraUvMode) (n : MbNeighbors) (coeffs : List ℤ) (u v : ℕ) where
-  pub macroblock-skipped : (mode : IntraYMode) → yWholeClipped mode true n coeffs + uClipped uv true n coeffs u + vClipped uv true n coeffs v ≡ 0
-  unfolding yWholeClipped uClipped vClipped planeClipped
+  pub macroblock-skipped : (mode : IntraYMode) → yWholeClipped mode true (n .y) coeffs + uvClipped uv true (n .u) coeffs u + uvClipped uv true (n .v) coeffs v ≡ 0
+  unfolding yWholeClipped uvClipped planeClipped
   macroblock-skipped mode = refl
 
-  pub macroblock-B-skipped : (modes : List IntraBmode) → yPartsClipped modes true n coeffs + uClipped uv true n coeffs u + vClipped uv true n coeffs v ≡ 0
-  unfolding yPartsClipped uClipped vClipped planeClipped
-  macroblock-B-skipped modes = omega (arith, walked-skipped 16 modes coeffs (startOf n))
+  pub macroblock-B-skipped : (modes : List IntraBmode) → yPartsClipped modes true (n .y) coeffs + uvClipped uv true (n .u) coeffs u + uvClipped uv true (n .v) coeffs v ≡ 0
+  unfolding yPartsClipped uvClipped planeClipped
+  macroblock-B-skipped modes = omega (arith, walked-skipped 16 modes coeffs (startOf (n .y)))

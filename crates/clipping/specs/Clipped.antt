@@ -1,7 +1,7 @@
 -- RFC 6386, 14.5: where prediction plus residue hit the stop. A sum is counted where it is below 0 or above 255 before it is held within them.
 --     over             one pixel
 --     blockClipped     a block's pixels; clippedAt, those of a block of a plane; dcClipped, those of a block by its DC alone
---     planeClipped     a plane predicted whole; yWholeClipped, uClipped, vClipped of a macroblock
+--     planeClipped     a plane predicted whole; yWholeClipped, uvClipped of a macroblock
 --     yPartsClipped    luma in mode B
 -- Where the coefficients are skipped nothing is summed, and the count is 0.
 use Prim.Native.Nat.{ℕ, zero, suc, _+_, _*_, _/_, _%_}
@@ -15,9 +15,10 @@ use Rattle.lists.specs.Lists.{pick}
 use Rattle.macroblock.specs.declared.modes.IntraYMode.{IntraYMode}
 use Rattle.macroblock.specs.declared.modes.IntraUvMode.{IntraUvMode}
 use Rattle.macroblock.specs.declared.modes.IntraBmode.{IntraBmode}
-use Rattle.macroblock.specs.declared.neighbors.MbNeighbors.{MbNeighbors}
+use Rattle.macroblock.specs.declared.neighbors.LumaEdges.{LumaEdges}
+use Rattle.macroblock.specs.declared.neighbors.ChromaEdges.{ChromaEdges}
 use Rattle.rfc6386.specs.Dct.{residue}
-use Rattle.rfc6386.specs.Walk.{blockAt, seeded, yPrediction, uPrediction, vPrediction, startOf, subPrediction, walked}
+use Rattle.rfc6386.specs.Walk.{blockAt, seeded, yPrediction, uvPrediction, startOf, subPrediction, walked}
 
 -- f 0 + .. + f (n - 1)
 unfoldable pub total : ℕ → (ℕ → ℕ) → ℕ
@@ -53,15 +54,12 @@ blocksClipped n prediction block =
 unfoldable pub planeClipped : ℕ → Bool → List ℕ → (ℕ → ℕ → ℤ) → ℕ
 planeClipped n skip prediction block = pick skip 0 (blocksClipped n prediction block)
 
--- ---- the planes of a macroblock, by the parameters of `yWhole`, `uPlane` and `vPlane`
-unfoldable pub yWholeClipped : IntraYMode → Bool → MbNeighbors → List ℤ → ℕ
-yWholeClipped mode skip n coeffs = planeClipped 16 skip (yPrediction mode n) (seeded coeffs)
+-- ---- the planes of a macroblock, by the parameters of `yWhole` and `uvPlane`
+unfoldable pub yWholeClipped : IntraYMode → Bool → LumaEdges → List ℤ → ℕ
+yWholeClipped mode skip e coeffs = planeClipped 16 skip (yPrediction mode e) (seeded coeffs)
 
-unfoldable pub uClipped : IntraUvMode → Bool → MbNeighbors → List ℤ → ℕ → ℕ
-uClipped mode skip n coeffs base = planeClipped 8 skip (uPrediction mode n) (blockAt coeffs base)
-
-unfoldable pub vClipped : IntraUvMode → Bool → MbNeighbors → List ℤ → ℕ → ℕ
-vClipped mode skip n coeffs base = planeClipped 8 skip (vPrediction mode n) (blockAt coeffs base)
+unfoldable pub uvClipped : IntraUvMode → Bool → ChromaEdges → List ℤ → ℕ → ℕ
+uvClipped mode skip e coeffs base = planeClipped 8 skip (uvPrediction mode e) (blockAt coeffs base)
 
 -- ---- luma in mode B, by the parameters of `subPixels`, `walked` and `yParts`
 -- a sub-block's sixteen pixels, each with the residue that `subPixels` adds to it
@@ -73,5 +71,5 @@ unfoldable pub walkedClipped : ℕ → List IntraBmode → Bool → List ℤ →
 walkedClipped n modes skip coeffs b =
     total n λ k. subClipped skip (subPrediction modes k (walked k modes skip coeffs b)) (blockAt coeffs 0 k)
 
-unfoldable pub yPartsClipped : List IntraBmode → Bool → MbNeighbors → List ℤ → ℕ
-yPartsClipped modes skip n coeffs = walkedClipped 16 modes skip coeffs (startOf n)
+unfoldable pub yPartsClipped : List IntraBmode → Bool → LumaEdges → List ℤ → ℕ
+yPartsClipped modes skip e coeffs = walkedClipped 16 modes skip coeffs (startOf e)

@@ -12,6 +12,14 @@ use Rattle.macroblock.specs.declared.numbers.UvModeOf.the-variants as uv
 use Rattle.macroblock.specs.declared.numbers.BModeOf.{BModeOf}
 use Rattle.macroblock.specs.declared.numbers.BModeOf.the-variants as bOf
 use Rattle.macroblock.specs.Modes.{yAnswer, uvAnswer, bAnswer}
+use Rattle.macroblock.proofs.neighbors.LumaEdges.absent.Reads as luma-absent
+use Rattle.macroblock.proofs.neighbors.LumaEdges.absent.Kinds as luma-absent-k
+use Rattle.macroblock.proofs.neighbors.LumaEdges.above.Reads as luma-above
+use Rattle.macroblock.proofs.neighbors.LumaEdges.above.Kinds as luma-above-k
+use Rattle.macroblock.proofs.neighbors.ChromaEdges.absent.Reads as chroma-absent
+use Rattle.macroblock.proofs.neighbors.ChromaEdges.absent.Kinds as chroma-absent-k
+use Rattle.macroblock.proofs.neighbors.ChromaEdges.above.Reads as chroma-above
+use Rattle.macroblock.proofs.neighbors.ChromaEdges.above.Kinds as chroma-above-k
 use Rattle.macroblock.proofs.neighbors.MbNeighbors.absent.Reads as absent
 use Rattle.macroblock.proofs.neighbors.MbNeighbors.absent.Kinds as absent-k
 use Rattle.macroblock.proofs.numbers.y_mode_number.Reads as y-mode-number
@@ -26,6 +34,18 @@ use Rattle.macroblock.proofs.numbers.uv_mode_of.Reads as uv-mode-of
 use Rattle.macroblock.proofs.numbers.uv_mode_of.Kinds as uv-mode-of-k
 use Rattle.macroblock.proofs.numbers.b_mode_of.Reads as b-mode-of
 use Rattle.macroblock.proofs.numbers.b_mode_of.Kinds as b-mode-of-k
+
+pub luma-absent-one : OneAnswer 0 luma-absent-k.ps luma-absent-k.r luma-absent.Post
+luma-absent-one κs a x y s t = same
+
+pub luma-above-one : OneAnswer 0 luma-above-k.ps luma-above-k.r luma-above.Post
+luma-above-one κs a x y s t = same
+
+pub chroma-absent-one : OneAnswer 0 chroma-absent-k.ps chroma-absent-k.r chroma-absent.Post
+chroma-absent-one κs a x y s t = same
+
+pub chroma-above-one : OneAnswer 0 chroma-above-k.ps chroma-above-k.r chroma-above.Post
+chroma-above-one κs a x y s t = same
 
 pub absent-one : OneAnswer 0 absent-k.ps absent-k.r absent.Post
 absent-one κs a x y s t = same

@@ -9,6 +9,8 @@ pub use modes::IntraBmode;
 pub use modes::IntraUvMode;
 pub use modes::IntraYMode;
 pub use modes::MbModes;
+pub use neighbors::ChromaEdges;
+pub use neighbors::LumaEdges;
 pub use neighbors::MbNeighbors;
 pub use numbers::BModeOf;
 pub use numbers::UvModeOf;

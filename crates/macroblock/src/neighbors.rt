@@ -1,75 +1,132 @@
-// The neighbour record of a macroblock, by value: each edge as its pixels beside a mark whether it is there.
+// The neighbour record of a macroblock, by value: for each plane one row above and one left column, and marks which parts of
+// them are there.
 //
-//        y_topleft | y_above (16)        | y_above_right (4)
-//        ----------+---------------------+------------------
-//        y_left    |                     |
-//        (16)      |  the macroblock     |
-//
-// and the same without above-right, 8 pixels an edge, for U and V.
+//        row     P | a a a a .. a | R R R R        P top-left, a above, R above-right (luma alone)
+//                --+--------------+--------
+//        left    l |              |
+//                l |  macroblock  |
+//                ..
 ghost use mathlib.Core.Path.{_≡_};
-ghost use Rattle.macroblock.specs.Neighbors.{absent};
+ghost use Prim.Native.Nat.{_+_, _≤_};
+ghost use lib.ListN.{length};
+ghost use Rattle.lists.specs.Lists.{part};
+ghost use Rattle.macroblock.specs.Neighbors.{noLuma, noChroma, absent};
+
+// The edges of luma: the row is the top-left pixel, the sixteen above and the four above right.
+pub struct LumaEdges {
+    pub row: [u8; 21],
+    pub topleft_there: bool,
+    pub above_there: bool,
+    pub above_right_there: bool,
+    pub left: [u8; 16],
+    pub left_there: bool,
+}
+
+// The edges of U or V: the row is the top-left pixel and the eight above.
+pub struct ChromaEdges {
+    pub row: [u8; 9],
+    pub topleft_there: bool,
+    pub above_there: bool,
+    pub left: [u8; 8],
+    pub left_there: bool,
+}
 
 pub struct MbNeighbors {
-    pub y_topleft: u8,
-    pub y_topleft_there: bool,
-    pub y_above: [u8; 16],
-    pub y_above_there: bool,
-    pub y_above_right: [u8; 4],
-    pub y_above_right_there: bool,
-    pub y_left: [u8; 16],
-    pub y_left_there: bool,
-    pub u_topleft: u8,
-    pub u_topleft_there: bool,
-    pub u_above: [u8; 8],
-    pub u_above_there: bool,
-    pub u_left: [u8; 8],
-    pub u_left_there: bool,
-    pub v_topleft: u8,
-    pub v_topleft_there: bool,
-    pub v_above: [u8; 8],
-    pub v_above_there: bool,
-    pub v_left: [u8; 8],
-    pub v_left_there: bool,
+    pub y: LumaEdges,
+    pub u: ChromaEdges,
+    pub v: ChromaEdges,
+}
+
+// As many pixels of the row as `to` has, from `at` on.
+fn cut(to: &mut [u8], row: &[u8], at: usize)
+    requires { ⌜ at + length (now to) ≤ length (now row) ⌝ }
+    ensures { λ _. ⌜ now (to .exit) ≡ part (length (now (to .entry))) (now (row .entry)) at ⌝ }
+{
+    for i in 0..to.len() {
+        to[i] = row[at + i];
+    }
+}
+
+fn sixteen_after(row: [u8; 21]) -> [u8; 16]
+    ensures { λ r. ⌜ r ≡ part 16 row 1 ⌝ }
+{
+    let mut to = [0u8; 16];
+    cut(&mut to, &row, 1);
+    to
+}
+
+fn eight_after(row: [u8; 9]) -> [u8; 8]
+    ensures { λ r. ⌜ r ≡ part 8 row 1 ⌝ }
+{
+    let mut to = [0u8; 8];
+    cut(&mut to, &row, 1);
+    to
+}
+
+impl LumaEdges {
+    // Every part absent, its bytes 0.
+    pub fn absent() -> Self
+        ensures { λ r. ⌜ r ≡ noLuma ⌝ }
+    {
+        Self {
+            row: [0u8; 21],
+            topleft_there: false,
+            above_there: false,
+            above_right_there: false,
+            left: [0u8; 16],
+            left_there: false,
+        }
+    }
+
+    // The sixteen pixels above.
+    pub fn above(self) -> [u8; 16]
+        ensures { λ r. ⌜ r ≡ part 16 (self .row) 1 ⌝ }
+    {
+        let row = self.row;
+        sixteen_after(row)
+    }
+}
+
+impl ChromaEdges {
+    // Every part absent, its bytes 0.
+    pub fn absent() -> Self
+        ensures { λ r. ⌜ r ≡ noChroma ⌝ }
+    {
+        Self {
+            row: [0u8; 9],
+            topleft_there: false,
+            above_there: false,
+            left: [0u8; 8],
+            left_there: false,
+        }
+    }
+
+    // The eight pixels above.
+    pub fn above(self) -> [u8; 8]
+        ensures { λ r. ⌜ r ≡ part 8 (self .row) 1 ⌝ }
+    {
+        let row = self.row;
+        eight_after(row)
+    }
 }
 
 impl MbNeighbors {
-    // What stands for a pixel of an absent row above, and for an absent top-left.
+    // What stands for a pixel of an absent part of a row above.
     pub const ABOVE: u8 = 127;
 
     // What stands for a pixel of an absent left column.
     pub const LEFT: u8 = 129;
 
-    // The B walker's work buffer has 17 rows of 21: top-left or left, 16 pixels, 4 above-right.
+    // A row of luma: top-left, 16 above, 4 above-right. The B walker's work buffer has 17 of them.
     pub const STRIDE: usize = 21;
 
-    // Every edge absent, its bytes 0.
+    // Every part of every edge absent, its bytes 0.
     pub fn absent() -> Self
         ensures { λ r. ⌜ r ≡ absent ⌝ }
     {
-        let y = [0u8; 16];
-        let right = [0u8; 4];
-        let c = [0u8; 8];
-        Self {
-            y_topleft: 0,
-            y_topleft_there: false,
-            y_above: y,
-            y_above_there: false,
-            y_above_right: right,
-            y_above_right_there: false,
-            y_left: y,
-            y_left_there: false,
-            u_topleft: 0,
-            u_topleft_there: false,
-            u_above: c,
-            u_above_there: false,
-            u_left: c,
-            u_left_there: false,
-            v_topleft: 0,
-            v_topleft_there: false,
-            v_above: c,
-            v_above_there: false,
-            v_left: c,
-            v_left_there: false,
-        }
+        let y = LumaEdges::absent();
+        let u = ChromaEdges::absent();
+        let v = ChromaEdges::absent();
+        Self { y, u, v }
     }
 }

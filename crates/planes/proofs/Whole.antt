@@ -9,7 +9,7 @@ use Rattle.lists.specs.Lists.{turns}
 use Rattle.rfc6386.specs.Wht.{iwht}
 use Rattle.rfc6386.specs.Dct.{idctFour}
 use Rattle.macroblock.specs.declared.modes.IntraYMode.{IntraYMode}
-use Rattle.macroblock.specs.declared.neighbors.MbNeighbors.{MbNeighbors}
+use Rattle.macroblock.specs.declared.neighbors.LumaEdges.{LumaEdges}
 use Rattle.rfc6386.specs.Walk.{blockAt, seeded, plane, yPrediction, yWhole}
 use Rattle.clipping.specs.Clipped.{total, planeClipped, yWholeClipped}
 use Rattle.blocks.specs.Taken.{residuesFrom}
@@ -50,12 +50,12 @@ unfolding plane planeClipped
 chroma-coded p coeffs o base px n h d e f =
     chroma-of p coeffs base px n (e ∙ rw d (chroma-added coeffs p base h)) (f ∙ rw d (chroma-clipped coeffs p base))
 
-pub y-skipped : (mode : IntraYMode) (n : MbNeighbors) (coeffs : List ℤ) (p : List ℕ) → p ≡ yPrediction mode n
+pub y-skipped : (mode : IntraYMode) (n : LumaEdges) (coeffs : List ℤ) (p : List ℕ) → p ≡ yPrediction mode n
     → (let r : LumaPlane = record { pixels = p; clipped = 0 } in r ≡ yDrawn mode true n coeffs)
 unfolding yDrawn yWhole yWholeClipped plane planeClipped
 y-skipped mode n coeffs p e = rw e
 
-pub y-coded : (mode : IntraYMode) (n : MbNeighbors) (coeffs : List ℤ) (p : List ℕ) (r : LumaPlane) → p ≡ yPrediction mode n → r ≡ lumaCoded p coeffs
+pub y-coded : (mode : IntraYMode) (n : LumaEdges) (coeffs : List ℤ) (p : List ℕ) (r : LumaPlane) → p ≡ yPrediction mode n → r ≡ lumaCoded p coeffs
     → r ≡ yDrawn mode false n coeffs
 unfolding yDrawn yWhole yWholeClipped lumaCoded
 y-coded mode n coeffs p r e d = d ∙ rw e refl

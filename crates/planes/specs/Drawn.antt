@@ -5,9 +5,10 @@ use mathlib.Core.List.{List}
 use lib.IntN.{ℤ}
 use Rattle.macroblock.specs.declared.modes.IntraYMode.{IntraYMode}
 use Rattle.macroblock.specs.declared.modes.IntraUvMode.{IntraUvMode}
-use Rattle.macroblock.specs.declared.neighbors.MbNeighbors.{MbNeighbors}
-use Rattle.rfc6386.specs.Walk.{blockAt, seeded, plane, yWhole, uPlane, vPlane}
-use Rattle.clipping.specs.Clipped.{planeClipped, yWholeClipped, uClipped, vClipped}
+use Rattle.macroblock.specs.declared.neighbors.LumaEdges.{LumaEdges}
+use Rattle.macroblock.specs.declared.neighbors.ChromaEdges.{ChromaEdges}
+use Rattle.rfc6386.specs.Walk.{blockAt, seeded, plane, yWhole, uvPlane}
+use Rattle.clipping.specs.Clipped.{planeClipped, yWholeClipped, uvClipped}
 use Rattle.planes.specs.declared.luma.LumaPlane.{LumaPlane}
 use Rattle.planes.specs.declared.chroma.ChromaPlane.{ChromaPlane}
 
@@ -21,11 +22,8 @@ chromaOf prediction skip coeffs base =
     record { pixels = plane 8 skip prediction (blockAt coeffs base); clipped = planeClipped 8 skip prediction (blockAt coeffs base) }
 
 -- of a macroblock
-unfoldable pub yDrawn : IntraYMode → Bool → MbNeighbors → List ℤ → LumaPlane
-yDrawn mode skip n coeffs = record { pixels = yWhole mode skip n coeffs; clipped = yWholeClipped mode skip n coeffs }
+unfoldable pub yDrawn : IntraYMode → Bool → LumaEdges → List ℤ → LumaPlane
+yDrawn mode skip e coeffs = record { pixels = yWhole mode skip e coeffs; clipped = yWholeClipped mode skip e coeffs }
 
-unfoldable pub uDrawn : IntraUvMode → Bool → MbNeighbors → List ℤ → ℕ → ChromaPlane
-uDrawn mode skip n coeffs base = record { pixels = uPlane mode skip n coeffs base; clipped = uClipped mode skip n coeffs base }
-
-unfoldable pub vDrawn : IntraUvMode → Bool → MbNeighbors → List ℤ → ℕ → ChromaPlane
-vDrawn mode skip n coeffs base = record { pixels = vPlane mode skip n coeffs base; clipped = vClipped mode skip n coeffs base }
+unfoldable pub uvDrawn : IntraUvMode → Bool → ChromaEdges → List ℤ → ℕ → ChromaPlane
+uvDrawn mode skip e coeffs base = record { pixels = uvPlane mode skip e coeffs base; clipped = uvClipped mode skip e coeffs base }

@@ -11,7 +11,8 @@ ghost use Prim.Native.Nat.{_<_};
 ghost use Rattle.lists.specs.Lists.{turns};
 ghost use Rattle.clipping.specs.Clipped.{total};
 ghost use Rattle.planes.specs.Steps.{rowAdded, rowClipped};
-ghost use Rattle.planes.specs.Drawn.{chromaOf, uDrawn, vDrawn};
+ghost use Rattle.planes.specs.Drawn.{chromaOf, uvDrawn};
+use macroblock::ChromaEdges;
 use macroblock::IntraUvMode;
 use macroblock::MbNeighbors;
 
@@ -81,57 +82,29 @@ fn plane(prediction: [u8; 64], skip: bool, coeffs: &[i16], base: usize) -> Chrom
     }
 }
 
-// U, from its four blocks of coefficients from `base` on.
-pub fn u_plane(
+// U or V, from its four blocks of coefficients from `base` on.
+pub fn uv_plane(
     mode: IntraUvMode,
     skip: bool,
-    neighbors: MbNeighbors,
+    edges: ChromaEdges,
     coeffs: &[i16],
     base: usize,
 ) -> ChromaPlane
-    ensures { λ r. ⌜ r ≡ uDrawn mode skip neighbors (now (coeffs .entry)) base ⌝ }
+    ensures { λ r. ⌜ r ≡ uvDrawn mode skip edges (now (coeffs .entry)) base ⌝ }
 {
-    let above = neighbors.u_above;
-    let left = neighbors.u_left;
+    let row = edges.row;
+    let left = edges.left;
     let p = blocks::pixel_or(
         MbNeighbors::ABOVE,
-        neighbors.u_topleft,
-        neighbors.u_topleft_there,
+        row[0],
+        edges.topleft_there,
     );
     let prediction = intra_predict::predict_uv8x8(
         mode,
-        above,
-        neighbors.u_above_there,
+        edges.above(),
+        edges.above_there,
         left,
-        neighbors.u_left_there,
-        p,
-    );
-    plane(prediction, skip, coeffs, base)
-}
-
-// V, from its four blocks of coefficients from `base` on.
-pub fn v_plane(
-    mode: IntraUvMode,
-    skip: bool,
-    neighbors: MbNeighbors,
-    coeffs: &[i16],
-    base: usize,
-) -> ChromaPlane
-    ensures { λ r. ⌜ r ≡ vDrawn mode skip neighbors (now (coeffs .entry)) base ⌝ }
-{
-    let above = neighbors.v_above;
-    let left = neighbors.v_left;
-    let p = blocks::pixel_or(
-        MbNeighbors::ABOVE,
-        neighbors.v_topleft,
-        neighbors.v_topleft_there,
-    );
-    let prediction = intra_predict::predict_uv8x8(
-        mode,
-        above,
-        neighbors.v_above_there,
-        left,
-        neighbors.v_left_there,
+        edges.left_there,
         p,
     );
     plane(prediction, skip, coeffs, base)

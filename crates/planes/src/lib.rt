@@ -4,7 +4,6 @@ mod chroma;
 mod luma;
 
 pub use chroma::ChromaPlane;
-pub use chroma::u_plane;
-pub use chroma::v_plane;
+pub use chroma::uv_plane;
 pub use luma::LumaPlane;
 pub use luma::y_whole;

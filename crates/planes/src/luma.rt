@@ -8,6 +8,7 @@ ghost use Rattle.rfc6386.specs.Walk.{yPrediction};
 ghost use Rattle.planes.specs.Steps.{seededFour, groupAdded, groupClipped};
 ghost use Rattle.planes.specs.Drawn.{lumaCoded, yDrawn};
 use macroblock::IntraYMode;
+use macroblock::LumaEdges;
 use macroblock::MbNeighbors;
 
 // The pixels of Y, and how many sums were below 0 or above 255.
@@ -17,13 +18,14 @@ pub struct LumaPlane {
 }
 
 // By the mode. Mode B predicts its sub-blocks one by one: zero pixels stand for its 16x16 prediction.
-fn predicted(mode: IntraYMode, neighbors: MbNeighbors) -> [u8; 256]
-    ensures { λ r. ⌜ r ≡ yPrediction mode neighbors ⌝ }
+fn predicted(mode: IntraYMode, edges: LumaEdges) -> [u8; 256]
+    ensures { λ r. ⌜ r ≡ yPrediction mode edges ⌝ }
 {
-    let above = neighbors.y_above;
-    let above_there = neighbors.y_above_there;
-    let left = neighbors.y_left;
-    let left_there = neighbors.y_left_there;
+    let row = edges.row;
+    let above = edges.above();
+    let above_there = edges.above_there;
+    let left = edges.left;
+    let left_there = edges.left_there;
     match mode {
         IntraYMode::Dc => intra_edges::predict_y16x16_dc(above, above_there, left, left_there),
         IntraYMode::V => intra_edges::predict_y16x16_v(above, above_there),
@@ -35,8 +37,8 @@ fn predicted(mode: IntraYMode, neighbors: MbNeighbors) -> [u8; 256]
             left_there,
             blocks::pixel_or(
                 MbNeighbors::ABOVE,
-                neighbors.y_topleft,
-                neighbors.y_topleft_there,
+                row[0],
+                edges.topleft_there,
             ),
         ),
         IntraYMode::B => [0u8; 256],
@@ -111,10 +113,10 @@ fn coded(prediction: [u8; 256], coeffs: &[i16]) -> LumaPlane
 }
 
 // The luma of a macroblock in a 16x16 mode, from 400 coefficients: the Y2 block, then the sixteen Y blocks.
-pub fn y_whole(mode: IntraYMode, skip: bool, neighbors: MbNeighbors, coeffs: &[i16]) -> LumaPlane
-    ensures { λ r. ⌜ r ≡ yDrawn mode skip neighbors (now (coeffs .entry)) ⌝ }
+pub fn y_whole(mode: IntraYMode, skip: bool, edges: LumaEdges, coeffs: &[i16]) -> LumaPlane
+    ensures { λ r. ⌜ r ≡ yDrawn mode skip edges (now (coeffs .entry)) ⌝ }
 {
-    let px = predicted(mode, neighbors);
+    let px = predicted(mode, edges);
     if skip {
         return LumaPlane {
             pixels: px,

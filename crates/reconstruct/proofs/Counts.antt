@@ -1,4 +1,4 @@
--- What changes no count: the bytes of an absent edge, the coefficients of a skipped macroblock, and a Y block's own first coefficient in the walker of the
+-- What changes no count: the bytes of an absent part of an edge, the coefficients of a skipped macroblock, and a Y block's own first coefficient in the walker of the
 -- 16x16 modes. Assumes nothing.
 use Prim.Native.Nat.{ℕ, _+_, _*_, _/_, _%_, _<_, _≤_}
 use mathlib.Core.Path.{_≡_, refl, ap}
@@ -10,31 +10,29 @@ use lib.ListN.{getD}
 use Rattle.macroblock.specs.declared.modes.IntraYMode.{IntraYMode}
 use Rattle.macroblock.specs.declared.modes.IntraUvMode.{IntraUvMode}
 use Rattle.macroblock.specs.declared.modes.IntraBmode.{IntraBmode}
-use Rattle.macroblock.specs.declared.neighbors.MbNeighbors.{MbNeighbors}
-use Rattle.rfc6386.specs.Walk.{blockAt, seeded, yPrediction, uPrediction, vPrediction}
-use Rattle.rfc6386.proofs.Absent.{SameEdges, yPrediction-same, uPrediction-same, vPrediction-same, start-same}
+use Rattle.macroblock.specs.declared.neighbors.LumaEdges.{LumaEdges}
+use Rattle.macroblock.specs.declared.neighbors.ChromaEdges.{ChromaEdges}
+use Rattle.rfc6386.specs.Walk.{blockAt, seeded, yPrediction, uvPrediction}
+use Rattle.rfc6386.proofs.Absent.{SameLuma, SameChroma, yPrediction-same, uvPrediction-same, start-same}
 use Rattle.rfc6386.proofs.Unused.{SameButDc, seeded-same}
 use Rattle.rfc6386.proofs.DctBlocks.{residue-ext}
-use Rattle.clipping.specs.Clipped.{over, blocksClipped, planeClipped, yWholeClipped, uClipped, vClipped, yPartsClipped}
+use Rattle.clipping.specs.Clipped.{over, blocksClipped, planeClipped, yWholeClipped, uvClipped, yPartsClipped}
 use Rattle.clipping.proofs.Total.{total-ext}
 
--- ---- the bytes of an absent edge
-module _ {m n : MbNeighbors} (e : SameEdges m n) (skip : Bool) (c : List ℤ) where
-  pub y-same : (mode : IntraYMode) → yWholeClipped mode skip m c ≡ yWholeClipped mode skip n c
+-- ---- the bytes of an absent part
+module _ {d e : LumaEdges} (same : SameLuma d e) (skip : Bool) (c : List ℤ) where
+  pub y-same : (mode : IntraYMode) → yWholeClipped mode skip d c ≡ yWholeClipped mode skip e c
   unfolding yWholeClipped
-  y-same mode = rw (yPrediction-same e mode)
+  y-same mode = rw (yPrediction-same same mode)
 
-  pub u-same : (mode : IntraUvMode) (base : ℕ) → uClipped mode skip m c base ≡ uClipped mode skip n c base
-  unfolding uClipped
-  u-same mode base = rw (uPrediction-same e mode)
-
-  pub v-same : (mode : IntraUvMode) (base : ℕ) → vClipped mode skip m c base ≡ vClipped mode skip n c base
-  unfolding vClipped
-  v-same mode base = rw (vPrediction-same e mode)
-
-  pub parts-same : (modes : List IntraBmode) → yPartsClipped modes skip m c ≡ yPartsClipped modes skip n c
+  pub parts-same : (modes : List IntraBmode) → yPartsClipped modes skip d c ≡ yPartsClipped modes skip e c
   unfolding yPartsClipped
-  parts-same modes = rw (start-same e)
+  parts-same modes = rw (start-same same)
+
+pub uv-same : {d e : ChromaEdges} → SameChroma d e → (skip : Bool) (c : List ℤ) (mode : IntraUvMode) (base : ℕ)
+    → uvClipped mode skip d c base ≡ uvClipped mode skip e c base
+unfolding uvClipped
+uv-same same skip c mode base = rw (uvPrediction-same same mode)
 
 -- ---- blocks that agree count the same
 plane-counts : (n : ℕ) (skip : Bool) (p : List ℕ) (x y : ℕ → ℕ → ℤ) → ((b k : ℕ) → k < 16 → x b k ≡ y b k) → planeClipped n skip p x ≡ planeClipped n skip p y
@@ -47,15 +45,12 @@ plane-counts n false p x y e =
     (residue-ext (x (n / 4 * (r / 4) + c / 4)) (y (n / 4 * (r / 4) + c / 4)) (λ i h. e (n / 4 * (r / 4) + c / 4) i h) (r % 4) (c % 4))
 
 -- ---- the own first coefficient of a Y block
-module _ (c d : List ℤ) (e : SameButDc c d) (n : MbNeighbors) (skip : Bool) where
-  pub y-own-dc : (mode : IntraYMode) → yWholeClipped mode skip n c ≡ yWholeClipped mode skip n d
+module _ (c d : List ℤ) (e : SameButDc c d) where
+  pub y-own-dc : (n : LumaEdges) (skip : Bool) (mode : IntraYMode) → yWholeClipped mode skip n c ≡ yWholeClipped mode skip n d
   unfolding yWholeClipped
-  y-own-dc mode = plane-counts 16 skip (yPrediction mode n) (seeded c) (seeded d) (seeded-same c d e)
+  y-own-dc n skip mode = plane-counts 16 skip (yPrediction mode n) (seeded c) (seeded d) (seeded-same c d e)
 
-  pub u-own-dc : (mode : IntraUvMode) (base : ℕ) → 272 ≤ base → uClipped mode skip n c base ≡ uClipped mode skip n d base
-  unfolding uClipped
-  u-own-dc mode base h = plane-counts 8 skip (uPrediction mode n) (blockAt c base) (blockAt d base) (λ b k l. e (base + 16 * b + k) (λ a p q. omega arith))
-
-  pub v-own-dc : (mode : IntraUvMode) (base : ℕ) → 272 ≤ base → vClipped mode skip n c base ≡ vClipped mode skip n d base
-  unfolding vClipped
-  v-own-dc mode base h = plane-counts 8 skip (vPrediction mode n) (blockAt c base) (blockAt d base) (λ b k l. e (base + 16 * b + k) (λ a p q. omega arith))
+  pub uv-own-dc : (n : ChromaEdges) (skip : Bool) (mode : IntraUvMode) (base : ℕ) → 272 ≤ base → uvClipped mode skip n c base ≡ uvClipped mode skip n d base
+  unfolding uvClipped
+  uv-own-dc n skip mode base h =
+      plane-counts 8 skip (uvPrediction mode n) (blockAt c base) (blockAt d base) (λ b k l. e (base + 16 * b + k) (λ a p q. omega arith))

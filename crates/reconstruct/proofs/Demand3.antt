@@ -15,7 +15,7 @@ use Rattle.macroblock.specs.Reply.{done}
 use Rattle.macroblock.specs.declared.modes.IntraBmode.{IntraBmode}
 use Rattle.macroblock.specs.declared.modes.MbModes.{MbModes}
 use Rattle.macroblock.specs.declared.neighbors.MbNeighbors.{MbNeighbors}
-use Rattle.rfc6386.specs.Walk.{blockAt, seeded, plane, yPrediction, uPrediction, vPrediction, yWhole, uPlane, vPlane, startOf, subPrediction, walked}
+use Rattle.rfc6386.specs.Walk.{blockAt, seeded, plane, yPrediction, uvPrediction, yWhole, uvPlane, startOf, subPrediction, walked}
 use Rattle.rfc6386.proofs.Demand3.{Within, exactPixel}
 use Rattle.rfc6386.proofs.Demand3Planes.{Block8191, demand3-added, demand3-sub}
 use Rattle.rfc6386.proofs.Parts.{parts-at}
@@ -37,19 +37,19 @@ module _ (m : MbModes) (n : MbNeighbors) (c : List ℤ) (r : ReconstructedMb) (p
   is-whole = promise ∙ nonB-accepted m n c (rw promise at accepted) .2 ∙ rw coded
 
   pub nonB-y : Blocks8191 16 (seeded c) → (i j : ℕ) → i < 16 → j < 16
-      → Near (r .y) (i * 16 + j) (seeded c (4 * (i / 4) + j / 4)) (i % 4) (j % 4) (getD (yPrediction (m .y) n) (i * 16 + j) 0)
+      → Near (r .y) (i * 16 + j) (seeded c (4 * (i / 4) + j / 4)) (i % 4) (j % 4) (getD (yPrediction (m .y) (n .y)) (i * 16 + j) 0)
   unfolding wholeOf yWhole plane
-  nonB-y h i j hi hj = rw is-whole (demand3-added 16 (yPrediction (m .y) n) (seeded c) i j hi hj (h (4 * (i / 4) + j / 4) (omega arith)))
+  nonB-y h i j hi hj = rw is-whole (demand3-added 16 (yPrediction (m .y) (n .y)) (seeded c) i j hi hj (h (4 * (i / 4) + j / 4) (omega arith)))
 
   pub nonB-u : Blocks8191 4 (blockAt c 272) → (i j : ℕ) → i < 8 → j < 8
-      → Near (r .u) (i * 8 + j) (blockAt c 272 (2 * (i / 4) + j / 4)) (i % 4) (j % 4) (getD (uPrediction (m .uv) n) (i * 8 + j) 0)
-  unfolding wholeOf uPlane plane
-  nonB-u h i j hi hj = rw is-whole (demand3-added 8 (uPrediction (m .uv) n) (blockAt c 272) i j hi hj (h (2 * (i / 4) + j / 4) (omega arith)))
+      → Near (r .u) (i * 8 + j) (blockAt c 272 (2 * (i / 4) + j / 4)) (i % 4) (j % 4) (getD (uvPrediction (m .uv) (n .u)) (i * 8 + j) 0)
+  unfolding wholeOf uvPlane plane
+  nonB-u h i j hi hj = rw is-whole (demand3-added 8 (uvPrediction (m .uv) (n .u)) (blockAt c 272) i j hi hj (h (2 * (i / 4) + j / 4) (omega arith)))
 
   pub nonB-v : Blocks8191 4 (blockAt c 336) → (i j : ℕ) → i < 8 → j < 8
-      → Near (r .v) (i * 8 + j) (blockAt c 336 (2 * (i / 4) + j / 4)) (i % 4) (j % 4) (getD (vPrediction (m .uv) n) (i * 8 + j) 0)
-  unfolding wholeOf vPlane plane
-  nonB-v h i j hi hj = rw is-whole (demand3-added 8 (vPrediction (m .uv) n) (blockAt c 336) i j hi hj (h (2 * (i / 4) + j / 4) (omega arith)))
+      → Near (r .v) (i * 8 + j) (blockAt c 336 (2 * (i / 4) + j / 4)) (i % 4) (j % 4) (getD (uvPrediction (m .uv) (n .v)) (i * 8 + j) 0)
+  unfolding wholeOf uvPlane plane
+  nonB-v h i j hi hj = rw is-whole (demand3-added 8 (uvPrediction (m .uv) (n .v)) (blockAt c 336) i j hi hj (h (2 * (i / 4) + j / 4) (omega arith)))
 
 -- ---- mode B
 module _ (subs : List IntraBmode) (there : Bool) (m : MbModes) (n : MbNeighbors) (c : List ℤ) (r : ReconstructedMb)
@@ -59,20 +59,20 @@ module _ (subs : List IntraBmode) (there : Bool) (m : MbModes) (n : MbNeighbors)
 
   -- row i and column j of sub-block k
   pub walkB-y : Blocks8191 16 (blockAt c 0) → (k i j : ℕ) → k < 16 → i < 4 → j < 4
-      → Near (r .y) ((4 * (k / 4) + i) * 16 + (4 * (k % 4) + j)) (blockAt c 0 k) i j (getD (subPrediction subs k (walked k subs false c (startOf n))) (4 * i + j) 0)
+      → Near (r .y) ((4 * (k / 4) + i) * 16 + (4 * (k % 4) + j)) (blockAt c 0 k) i j (getD (subPrediction subs k (walked k subs false c (startOf (n .y)))) (4 * i + j) 0)
   unfolding partsOf
   walkB-y h k i j hk hi hj =
-      let p = subPrediction subs k (walked k subs false c (startOf n)) in
+      let p = subPrediction subs k (walked k subs false c (startOf (n .y))) in
       let q : (4 * i + j) / 4 ≡ i = omega arith in
       let s : (4 * i + j) % 4 ≡ j = omega arith in
-      rw (is-parts, parts-at subs false n c k i j hk hi hj) (rw (q, s) at (demand3-sub p (blockAt c 0 k) (4 * i + j) (omega arith) (h k hk)))
+      rw (is-parts, parts-at subs false (n .y) c k i j hk hi hj) (rw (q, s) at (demand3-sub p (blockAt c 0 k) (4 * i + j) (omega arith) (h k hk)))
 
   pub walkB-u : Blocks8191 4 (blockAt c 256) → (i j : ℕ) → i < 8 → j < 8
-      → Near (r .u) (i * 8 + j) (blockAt c 256 (2 * (i / 4) + j / 4)) (i % 4) (j % 4) (getD (uPrediction (m .uv) n) (i * 8 + j) 0)
-  unfolding partsOf uPlane plane
-  walkB-u h i j hi hj = rw is-parts (demand3-added 8 (uPrediction (m .uv) n) (blockAt c 256) i j hi hj (h (2 * (i / 4) + j / 4) (omega arith)))
+      → Near (r .u) (i * 8 + j) (blockAt c 256 (2 * (i / 4) + j / 4)) (i % 4) (j % 4) (getD (uvPrediction (m .uv) (n .u)) (i * 8 + j) 0)
+  unfolding partsOf uvPlane plane
+  walkB-u h i j hi hj = rw is-parts (demand3-added 8 (uvPrediction (m .uv) (n .u)) (blockAt c 256) i j hi hj (h (2 * (i / 4) + j / 4) (omega arith)))
 
   pub walkB-v : Blocks8191 4 (blockAt c 320) → (i j : ℕ) → i < 8 → j < 8
-      → Near (r .v) (i * 8 + j) (blockAt c 320 (2 * (i / 4) + j / 4)) (i % 4) (j % 4) (getD (vPrediction (m .uv) n) (i * 8 + j) 0)
-  unfolding partsOf vPlane plane
-  walkB-v h i j hi hj = rw is-parts (demand3-added 8 (vPrediction (m .uv) n) (blockAt c 320) i j hi hj (h (2 * (i / 4) + j / 4) (omega arith)))
+      → Near (r .v) (i * 8 + j) (blockAt c 320 (2 * (i / 4) + j / 4)) (i % 4) (j % 4) (getD (uvPrediction (m .uv) (n .v)) (i * 8 + j) 0)
+  unfolding partsOf uvPlane plane
+  walkB-v h i j hi hj = rw is-parts (demand3-added 8 (uvPrediction (m .uv) (n .v)) (blockAt c 320) i j hi hj (h (2 * (i / 4) + j / 4) (omega arith)))

@@ -13,8 +13,8 @@ use Rattle.macroblock.specs.declared.modes.IntraBmode.{IntraBmode}
 use Rattle.macroblock.specs.declared.modes.MbModes.{MbModes}
 use Rattle.macroblock.specs.declared.neighbors.MbNeighbors.{MbNeighbors}
 use Rattle.rfc6386.specs.Edges.{isB}
-use Rattle.rfc6386.specs.Walk.{yWhole, yParts, uPlane, vPlane}
-use Rattle.clipping.specs.Clipped.{yWholeClipped, yPartsClipped, uClipped, vClipped}
+use Rattle.rfc6386.specs.Walk.{yWhole, yParts, uvPlane}
+use Rattle.clipping.specs.Clipped.{yWholeClipped, yPartsClipped, uvClipped}
 use Rattle.reconstruct.specs.declared.ReconstructedMb.{ReconstructedMb}
 
 -- the number, and zero pixels
@@ -26,10 +26,10 @@ unfoldable pub wholeOf : IntraYMode → IntraUvMode → Bool → MbNeighbors →
 wholeOf y uv skip n coeffs =
     record {
       reply = done;
-      y = yWhole y skip n coeffs;
-      u = uPlane uv skip n coeffs 272;
-      v = vPlane uv skip n coeffs 336;
-      clipped = yWholeClipped y skip n coeffs + uClipped uv skip n coeffs 272 + vClipped uv skip n coeffs 336;
+      y = yWhole y skip (n .y) coeffs;
+      u = uvPlane uv skip (n .u) coeffs 272;
+      v = uvPlane uv skip (n .v) coeffs 336;
+      clipped = yWholeClipped y skip (n .y) coeffs + uvClipped uv skip (n .u) coeffs 272 + uvClipped uv skip (n .v) coeffs 336;
     }
 
 unfoldable pub nonB : MbModes → MbNeighbors → List ℤ → ReconstructedMb
@@ -42,10 +42,10 @@ unfoldable pub partsOf : List IntraBmode → IntraUvMode → Bool → MbNeighbor
 partsOf modes uv skip n coeffs =
     record {
       reply = done;
-      y = yParts modes skip n coeffs;
-      u = uPlane uv skip n coeffs 256;
-      v = vPlane uv skip n coeffs 320;
-      clipped = yPartsClipped modes skip n coeffs + uClipped uv skip n coeffs 256 + vClipped uv skip n coeffs 320;
+      y = yParts modes skip (n .y) coeffs;
+      u = uvPlane uv skip (n .u) coeffs 256;
+      v = uvPlane uv skip (n .v) coeffs 320;
+      clipped = yPartsClipped modes skip (n .y) coeffs + uvClipped uv skip (n .u) coeffs 256 + uvClipped uv skip (n .v) coeffs 320;
     }
 
 unfoldable pub walkB : List IntraBmode → Bool → MbModes → MbNeighbors → List ℤ → ReconstructedMb

@@ -59,9 +59,9 @@ fn whole(
 ) -> ReconstructedMb
     ensures { λ r. ⌜ r ≡ wholeOf y uv skip neighbors (now (coeffs .entry)) ⌝ }
 {
-    let luma = planes::y_whole(y, skip, neighbors, coeffs);
-    let chroma_u = planes::u_plane(uv, skip, neighbors, coeffs, 272);
-    let chroma_v = planes::v_plane(uv, skip, neighbors, coeffs, 336);
+    let luma = planes::y_whole(y, skip, neighbors.y, coeffs);
+    let chroma_u = planes::uv_plane(uv, skip, neighbors.u, coeffs, 272);
+    let chroma_v = planes::uv_plane(uv, skip, neighbors.v, coeffs, 336);
     let y_pixels = luma.pixels;
     let u_pixels = chroma_u.pixels;
     let v_pixels = chroma_v.pixels;
@@ -106,9 +106,9 @@ fn parts(
 ) -> ReconstructedMb
     ensures { λ r. ⌜ r ≡ partsOf «sub_modes» uv skip neighbors (now (coeffs .entry)) ⌝ }
 {
-    let luma = sub_blocks::luma_parts(sub_modes, skip, neighbors, coeffs);
-    let chroma_u = planes::u_plane(uv, skip, neighbors, coeffs, 256);
-    let chroma_v = planes::v_plane(uv, skip, neighbors, coeffs, 320);
+    let luma = sub_blocks::luma_parts(sub_modes, skip, neighbors.y, coeffs);
+    let chroma_u = planes::uv_plane(uv, skip, neighbors.u, coeffs, 256);
+    let chroma_v = planes::uv_plane(uv, skip, neighbors.v, coeffs, 320);
     let y_pixels = luma.pixels;
     let u_pixels = chroma_u.pixels;
     let v_pixels = chroma_v.pixels;

@@ -11,14 +11,14 @@ use mathlib.Core.List.{List}
 use native.Mathlib.Numerals.{add-one}
 use native.Mathlib.Omega.{arith}
 use lib.IntN.{ℤ}
-use lib.ListN.{length, getD, length-set}
+use lib.ListN.{length, getD}
 use Rattle.lists.specs.Lists.{turns}
 use Rattle.lists.proofs.Turns.{turns-keep}
 use Rattle.lists.proofs.Nested.{turns-add}
 use Rattle.lists.proofs.Rows.{rows-at}
 use Rattle.lists.proofs.Updates.{updates-length, updates-outside, updates-inside}
 use Rattle.macroblock.specs.declared.modes.IntraBmode.{IntraBmode}
-use Rattle.macroblock.specs.declared.neighbors.MbNeighbors.{MbNeighbors}
+use Rattle.macroblock.specs.declared.neighbors.LumaEdges.{LumaEdges}
 use Rattle.rfc6386.specs.Walk.{blockAt, laid, blank, copiedDown, bordered, startOf, cornerOf, subPrediction, subPixels, putBlock, subBlock, walked, lumaOf, yParts}
 
 -- ---- sixteen pixels put into the buffer
@@ -98,12 +98,12 @@ laid-length : (n at step : ℕ) (s b : List ℕ) → length (laid n at step s b)
 unfolding laid
 laid-length n at step s b = updates-length 0 (λ i. at + i * step) (λ i x. getD s i 0) n b
 
-pub start-length : (n : MbNeighbors) → length (startOf n) ≡ 357
+pub start-length : (n : LumaEdges) → length (startOf n) ≡ 357
 unfolding startOf bordered copiedDown blank
-start-length n = simp (laid-length, length-set)
+start-length n = simp laid-length
 
 -- row r and column c of sub-block k
-pub parts-at : (modes : List IntraBmode) (skip : Bool) (n : MbNeighbors) (coeffs : List ℤ) (k r c : ℕ) → k < 16 → r < 4 → c < 4
+pub parts-at : (modes : List IntraBmode) (skip : Bool) (n : LumaEdges) (coeffs : List ℤ) (k r c : ℕ) → k < 16 → r < 4 → c < 4
     → getD (yParts modes skip n coeffs) ((4 * (k / 4) + r) * 16 + (4 * (k % 4) + c)) 0 ≡ getD (pixelsOf modes skip coeffs k (startOf n)) (4 * r + c) 0
 unfolding yParts lumaOf
 parts-at modes skip n coeffs k r c hk hr hc =

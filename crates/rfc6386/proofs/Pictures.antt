@@ -7,16 +7,16 @@ use lib.Dec.{leb, eqb}
 use lib.IntN.{ℤ, pos, negsuc, _+ℤ_}
 use lib.ListN.{replicate}
 use Rattle.whole.specs.Whole.{wrap, narrow, clampTo}
-use Rattle.lists.specs.Lists.{table, rows, turns, pick, both}
+use Rattle.lists.specs.Lists.{table, rows, turns, pick, both, part}
 use Rattle.macroblock.specs.declared.modes.IntraYMode.the-variants as y
 use Rattle.macroblock.specs.declared.modes.IntraBmode.the-variants as b
-use Rattle.macroblock.specs.Neighbors.{absent}
+use Rattle.macroblock.specs.Neighbors.{noLuma}
 use Rattle.rfc6386.specs.Quantiser.{dcLookup, acLookup, clampIndex, dcFactor, acFactor, dequant}
 use Rattle.rfc6386.specs.Wht.{whtPass, whtColumn, whtRound, whtAt, iwht}
 use Rattle.rfc6386.specs.Dct.{pass, column, passes, bySin, byCos, rounded, residue, idct}
 use Rattle.rfc6386.specs.Edges.{edgeOr, pixelOr, aboveOr, leftOr, sumOf, dcPixel, tm, dcBlock, predictY}
 use Rattle.rfc6386.specs.Subblock.{subHe, subVe, subLd, subVl, subPixel, predictB}
-use Rattle.rfc6386.specs.Walk.{laid, blank, copiedDown, bordered, startOf, aboveIn, leftIn, topLeftIn, subPrediction, subPixels, putBlock, subBlock, walked, lumaOf, yParts}
+use Rattle.rfc6386.specs.Walk.{laid, blank, copiedDown, bordered, rowOr, startOf, aboveIn, leftIn, topLeftIn, subPrediction, subPixels, putBlock, subBlock, walked, lumaOf, yParts}
 
 -- an edge of sixteen with sum v; A = 0, 8, .., 56; a block with one coefficient that is not 0, at place k
 abbrev sum16 : ℕ → List ℕ
@@ -76,10 +76,10 @@ pub known-pictures : (a l : List ℕ) (p : ℕ) (coeffs : List ℤ)
     × (subPixel b.Vl ramp l p 2 3 ≡ 40)
     × (subPixel b.Vl ramp l p 3 3 ≡ 48)
     -- 14: B walker, no edges, skipped, all He; all Ve
-    × (yParts (replicate 16 b.He) true absent coeffs ≡ replicate 256 129)
-    × (yParts (replicate 16 b.Ve) true absent coeffs ≡ rows 16 16 firstColumn)
-unfolding wrap narrow clampTo table rows turns absent dcLookup acLookup clampIndex dcFactor acFactor dequant whtPass whtColumn whtRound whtAt iwht
+    × (yParts (replicate 16 b.He) true noLuma coeffs ≡ replicate 256 129)
+    × (yParts (replicate 16 b.Ve) true noLuma coeffs ≡ rows 16 16 firstColumn)
+unfolding wrap narrow clampTo table rows turns part noLuma dcLookup acLookup clampIndex dcFactor acFactor dequant whtPass whtColumn whtRound whtAt iwht
     pass column passes bySin byCos rounded residue idct edgeOr pixelOr aboveOr leftOr sumOf dcPixel tm dcBlock predictY subHe subVe subLd subVl subPixel predictB
-    laid blank copiedDown bordered startOf aboveIn leftIn topLeftIn subPrediction subPixels putBlock subBlock walked lumaOf yParts
+    laid blank copiedDown bordered rowOr startOf aboveIn leftIn topLeftIn subPrediction subPixels putBlock subBlock walked lumaOf yParts
 known-pictures a l p coeffs =
     (refl, refl, refl, refl, refl, refl, refl, refl, refl, refl, refl, refl, refl, refl, refl, refl, refl, refl, refl, refl, refl, refl, refl, refl, refl, refl, refl, refl, refl)

@@ -6,6 +6,8 @@ use mathlib.Core.List.{List, []}
 use lib.Dec.{leb, ltb, eqb}
 use lib.ListN.{getD, length, take, drop, replicate}
 use Rattle.lists.specs.Lists.{table, pick, both}
+use Rattle.macroblock.specs.declared.neighbors.LumaEdges.{LumaEdges}
+use Rattle.macroblock.specs.declared.neighbors.ChromaEdges.{ChromaEdges}
 use Rattle.macroblock.specs.declared.neighbors.MbNeighbors.{MbNeighbors}
 
 -- ---- a row's part of a plane: given where count ≥ 1, column + count ≤ stride and row * stride + column + count ≤ length,
@@ -19,63 +21,52 @@ rowPart l stride row col count =
     pick (given (length l) stride row col count) (take count (drop (row * stride + col) l)) []
 
 -- ---- the edges of the macroblock in column c and row r. In the first row nothing stands above, in the first column nothing to the left:
--- such an edge is absent and its bytes are 0. Below the first row the top-left pixel of the first column is there all the same: the
--- reference decoder's frame has a border of 129 left of the picture, and of 127 above it, the corner with it
+-- such a part is absent and its bytes are 0. Below the first row all of the row above is there
 abbrev pub aboveThere : ℕ → ℕ → Bool
 aboveThere r c = ltb 0 r
 
 abbrev pub leftThere : ℕ → ℕ → Bool
 leftThere r c = ltb 0 c
 
-abbrev pub topLeftThere : ℕ → ℕ → Bool
-topLeftThere r c = ltb 0 r
+-- pixel x of a row of the plane, counted from the border on: the reference decoder's frame has a border of 129 left of the picture; then the
+-- row's own pixels; those right of the picture are given
+unfoldable pub pixelOf : List ℕ → ℕ → ℕ → List ℕ → ℕ → ℕ
+pixelOf l stride row right x =
+    pick (ltb x 1) 129 (pick (leb x stride) (getD l (row * stride + (x - 1)) 0) (getD right (x - stride - 1) 0))
 
-abbrev pub aboveRightThere : ℕ → ℕ → Bool
-aboveRightThere r c = ltb 0 r
-
--- the n pixels of row n r - 1 from column n c on
-unfoldable pub aboveOf : ℕ → List ℕ → ℕ → ℕ → ℕ → List ℕ
-aboveOf n l w r c = pick (aboveThere r c) (take n (drop ((n * r - 1) * (n * w) + n * c) l)) (replicate n 0)
+-- m pixels of row n r - 1, from the one before column n c on: 1 + 16 + 4 of luma, 1 + 8 of chroma
+unfoldable pub rowAbove : ℕ → ℕ → List ℕ → ℕ → ℕ → ℕ → List ℕ → List ℕ
+rowAbove n m l w r c right = pick (aboveThere r c) (table m (λ i. pixelOf l (n * w) (n * r - 1) right (n * c + i))) (replicate m 0)
 
 -- the n pixels of column n c - 1 from row n r on
 unfoldable pub leftOf : ℕ → List ℕ → ℕ → ℕ → ℕ → List ℕ
 leftOf n l w r c =
     pick (leftThere r c) (table n (λ i. getD l (n * r * (n * w) + (n * c - 1) + i * (n * w)) 0)) (replicate n 0)
 
--- the pixel of row n r - 1 and column n c - 1, or the border's
-unfoldable pub topLeftOf : ℕ → List ℕ → ℕ → ℕ → ℕ → ℕ
-topLeftOf n l w r c = pick (topLeftThere r c) (pick (leftThere r c) (getD l ((n * r - 1) * (n * w) + (n * c - 1)) 0) 129) 0
-
--- the four luma pixels right of the row above; in the last column they are outside the picture, and given
-unfoldable pub aboveRightOf : List ℕ → ℕ → ℕ → ℕ → List ℕ → List ℕ
-aboveRightOf l w r c right =
-    pick (aboveRightThere r c) (pick (ltb (c + 1) w) (take 4 (drop ((16 * r - 1) * (16 * w) + (16 * c + 16)) l)) right) (replicate 4 0)
-
--- ---- the record; `right` is read in the last column below the first row alone
-unfoldable pub neighborsOf : List ℕ → List ℕ → List ℕ → ℕ → ℕ → ℕ → List ℕ → MbNeighbors
-neighborsOf y u v w r c right =
+-- ---- the record. `right` is the four luma pixels right of the picture: they are read in the last column below the first row alone
+unfoldable pub lumaBeside : List ℕ → ℕ → ℕ → ℕ → List ℕ → LumaEdges
+lumaBeside l w r c right =
     record {
-      «y_topleft» = topLeftOf 16 y w r c;
-      «y_topleft_there» = topLeftThere r c;
-      «y_above» = aboveOf 16 y w r c;
-      «y_above_there» = aboveThere r c;
-      «y_above_right» = aboveRightOf y w r c right;
-      «y_above_right_there» = aboveRightThere r c;
-      «y_left» = leftOf 16 y w r c;
-      «y_left_there» = leftThere r c;
-      «u_topleft» = topLeftOf 8 u w r c;
-      «u_topleft_there» = topLeftThere r c;
-      «u_above» = aboveOf 8 u w r c;
-      «u_above_there» = aboveThere r c;
-      «u_left» = leftOf 8 u w r c;
-      «u_left_there» = leftThere r c;
-      «v_topleft» = topLeftOf 8 v w r c;
-      «v_topleft_there» = topLeftThere r c;
-      «v_above» = aboveOf 8 v w r c;
-      «v_above_there» = aboveThere r c;
-      «v_left» = leftOf 8 v w r c;
-      «v_left_there» = leftThere r c;
+      row = rowAbove 16 21 l w r c right;
+      «topleft_there» = aboveThere r c;
+      «above_there» = aboveThere r c;
+      «above_right_there» = aboveThere r c;
+      left = leftOf 16 l w r c;
+      «left_there» = leftThere r c;
     }
+
+unfoldable pub chromaBeside : List ℕ → ℕ → ℕ → ℕ → ChromaEdges
+chromaBeside l w r c =
+    record {
+      row = rowAbove 8 9 l w r c [];
+      «topleft_there» = aboveThere r c;
+      «above_there» = aboveThere r c;
+      left = leftOf 8 l w r c;
+      «left_there» = leftThere r c;
+    }
+
+unfoldable pub neighborsOf : List ℕ → List ℕ → List ℕ → ℕ → ℕ → ℕ → List ℕ → MbNeighbors
+neighborsOf y u v w r c right = record { y = lumaBeside y w r c right; u = chromaBeside u w r c; v = chromaBeside v w r c }
 
 -- ---- the limits: each side 1 to 1,024, the place inside; the planes exactly 256, 64 and 64 bytes a macroblock
 unfoldable pub placeOk : ℕ → ℕ → ℕ → ℕ → Bool

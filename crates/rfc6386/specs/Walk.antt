@@ -4,17 +4,19 @@ use Prim.Native.Nat.{ℕ, zero, suc, _+_, _-_, _*_, _/_, _%_}
 use mathlib.Core.Bool.{Bool}
 use mathlib.Core.List.{List, [], _∷_}
 use lib.IntN.{ℤ, pos}
-use lib.ListN.{getD, set, take, replicate}
-use Rattle.lists.specs.Lists.{table, rows, turns, store, pick}
+use lib.Dec.{ltb}
+use lib.ListN.{getD, take, replicate}
+use Rattle.lists.specs.Lists.{table, rows, turns, store, pick, part}
 use Rattle.macroblock.specs.declared.modes.IntraYMode.{IntraYMode}
 use Rattle.macroblock.specs.declared.modes.IntraUvMode.{IntraUvMode}
 use Rattle.macroblock.specs.declared.modes.IntraBmode.{IntraBmode}
 use Rattle.macroblock.specs.declared.modes.IntraBmode.the-variants.{Dc}
-use Rattle.macroblock.specs.declared.neighbors.MbNeighbors.{MbNeighbors}
+use Rattle.macroblock.specs.declared.neighbors.LumaEdges.{LumaEdges}
+use Rattle.macroblock.specs.declared.neighbors.ChromaEdges.{ChromaEdges}
 use Rattle.rfc6386.specs.Wht.{iwht}
 use Rattle.rfc6386.specs.Dct.{residue}
 use Rattle.rfc6386.specs.Residue.{sum}
-use Rattle.rfc6386.specs.Edges.{pixelOr, aboveOr, leftOr, predictY, predictUv}
+use Rattle.rfc6386.specs.Edges.{pixelOr, leftOr, predictY, predictUv}
 use Rattle.rfc6386.specs.Subblock.{predictB}
 
 -- ---- blocks of coefficients
@@ -37,29 +39,22 @@ addedBlocks n prediction block =
 unfoldable pub plane : ℕ → Bool → List ℕ → (ℕ → ℕ → ℤ) → List ℕ
 plane n skip prediction block = pick skip prediction (addedBlocks n prediction block)
 
--- ---- what is predicted from the neighbours: 127 stands for an absent top-left
-unfoldable pub yPrediction : IntraYMode → MbNeighbors → List ℕ
-yPrediction mode n =
-    predictY mode (n .«y_above») (n .«y_above_there») (n .«y_left») (n .«y_left_there») (pixelOr 127 (n .«y_topleft») (n .«y_topleft_there»))
+-- ---- what is predicted from the neighbours. A row is the top-left pixel, for which 127 stands where it is absent, then those above
+unfoldable pub yPrediction : IntraYMode → LumaEdges → List ℕ
+yPrediction mode e =
+    predictY mode (part 16 (e .row) 1) (e .«above_there») (e .left) (e .«left_there») (pixelOr 127 (getD (e .row) 0 0) (e .«topleft_there»))
 
-unfoldable pub uPrediction : IntraUvMode → MbNeighbors → List ℕ
-uPrediction mode n =
-    predictUv mode (n .«u_above») (n .«u_above_there») (n .«u_left») (n .«u_left_there») (pixelOr 127 (n .«u_topleft») (n .«u_topleft_there»))
-
-unfoldable pub vPrediction : IntraUvMode → MbNeighbors → List ℕ
-vPrediction mode n =
-    predictUv mode (n .«v_above») (n .«v_above_there») (n .«v_left») (n .«v_left_there») (pixelOr 127 (n .«v_topleft») (n .«v_topleft_there»))
+unfoldable pub uvPrediction : IntraUvMode → ChromaEdges → List ℕ
+uvPrediction mode e =
+    predictUv mode (part 8 (e .row) 1) (e .«above_there») (e .left) (e .«left_there») (pixelOr 127 (getD (e .row) 0 0) (e .«topleft_there»))
 
 -- ---- the planes of a macroblock. Luma in the four 16x16 modes: 400 coefficients, Y2 first
-unfoldable pub yWhole : IntraYMode → Bool → MbNeighbors → List ℤ → List ℕ
-yWhole mode skip n coeffs = plane 16 skip (yPrediction mode n) (seeded coeffs)
+unfoldable pub yWhole : IntraYMode → Bool → LumaEdges → List ℤ → List ℕ
+yWhole mode skip e coeffs = plane 16 skip (yPrediction mode e) (seeded coeffs)
 
--- chroma: the four blocks of U and the four of V, from `base` on
-unfoldable pub uPlane : IntraUvMode → Bool → MbNeighbors → List ℤ → ℕ → List ℕ
-uPlane mode skip n coeffs base = plane 8 skip (uPrediction mode n) (blockAt coeffs base)
-
-unfoldable pub vPlane : IntraUvMode → Bool → MbNeighbors → List ℤ → ℕ → List ℕ
-vPlane mode skip n coeffs base = plane 8 skip (vPrediction mode n) (blockAt coeffs base)
+-- chroma: the four blocks of U or V, from `base` on
+unfoldable pub uvPlane : IntraUvMode → Bool → ChromaEdges → List ℤ → ℕ → List ℕ
+uvPlane mode skip e coeffs base = plane 8 skip (uvPrediction mode e) (blockAt coeffs base)
 
 -- ---- luma in mode B: the sixteen sub-blocks in raster order, each predicted from finished pixels and the given borders.
 -- The work buffer has 17 rows of 21:
@@ -81,17 +76,23 @@ laid n at step s b = turns n (store (λ i. at + i * step) (λ i. getD s i 0)) b
 unfoldable pub blank : List ℕ
 blank = replicate 357 0
 
+-- row 0, the column to the left, and the row's last four again
 unfoldable pub copiedDown : List ℕ → List ℕ → List ℕ
 copiedDown right b = laid 4 269 1 right (laid 4 185 1 right (laid 4 101 1 right b))
 
-unfoldable pub bordered : ℕ → List ℕ → List ℕ → List ℕ → List ℕ
-bordered p above left right = copiedDown right (laid 16 21 21 left (laid 4 17 1 right (laid 16 1 1 above (set blank 0 p))))
+unfoldable pub bordered : List ℕ → List ℕ → List ℕ
+bordered row left = copiedDown (part 4 row 17) (laid 16 21 21 left (laid 21 0 1 row blank))
 
--- an absent border is 127 above, above-right and at the top-left, and 129 to the left, in every 4x4 mode
-unfoldable pub startOf : MbNeighbors → List ℕ
-startOf n =
-    bordered (pixelOr 127 (n .«y_topleft») (n .«y_topleft_there»)) (aboveOr 16 (n .«y_above») (n .«y_above_there»))
-    (leftOr 16 (n .«y_left») (n .«y_left_there»)) (aboveOr 4 (n .«y_above_right») (n .«y_above_right_there»))
+-- row 0 is the record's row, with 127 in the place of each absent part: the first pixel, the next sixteen, the last four
+abbrev pub thereAt : LumaEdges → ℕ → Bool
+thereAt e i = pick (ltb i 1) (e .«topleft_there») (pick (ltb i 17) (e .«above_there») (e .«above_right_there»))
+
+unfoldable pub rowOr : LumaEdges → List ℕ
+rowOr e = table 21 (λ i. pixelOr 127 (getD (e .row) i 0) (thereAt e i))
+
+-- an absent border is 127 in the row above and 129 to the left, in every 4x4 mode
+unfoldable pub startOf : LumaEdges → List ℕ
+startOf e = bordered (rowOr e) (leftOr 16 (e .left) (e .«left_there»))
 
 -- where sub-block k begins in the buffer
 abbrev pub cornerOf : ℕ → ℕ
@@ -134,5 +135,5 @@ walked n modes skip coeffs b = turns n (subBlock modes skip coeffs) b
 unfoldable pub lumaOf : List ℕ → List ℕ
 lumaOf b = rows 16 16 (λ r c. getD b (22 + 21 * r + c) 0)
 
-unfoldable pub yParts : List IntraBmode → Bool → MbNeighbors → List ℤ → List ℕ
-yParts modes skip n coeffs = lumaOf (walked 16 modes skip coeffs (startOf n))
+unfoldable pub yParts : List IntraBmode → Bool → LumaEdges → List ℤ → List ℕ
+yParts modes skip e coeffs = lumaOf (walked 16 modes skip coeffs (startOf e))

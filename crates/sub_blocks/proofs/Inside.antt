@@ -17,7 +17,7 @@ use lib.Seq.{set-append-left}
 use Rattle.lists.specs.Lists.{turns, store}
 use Rattle.lists.proofs.Updates.{updates-length}
 use Rattle.macroblock.specs.declared.modes.IntraBmode.{IntraBmode}
-use Rattle.macroblock.specs.declared.neighbors.MbNeighbors.{MbNeighbors}
+use Rattle.macroblock.specs.declared.neighbors.LumaEdges.{LumaEdges}
 use Rattle.rfc6386.specs.Walk.{blockAt, cornerOf, aboveIn, leftIn, topLeftIn, subPrediction, subPixels, putBlock, subBlock, startOf, walked}
 use Rattle.rfc6386.proofs.Parts.{walked-length, start-length, pixelAt}
 
@@ -25,7 +25,7 @@ pub window-inside : (k : ℕ) → k < 16 → (22 ≤ cornerOf k) × (cornerOf k 
 window-inside k h = (omega arith, omega arith)
 
 -- ---- the buffer before sub-block k
-module _ (modes : List IntraBmode) (skip : Bool) (coeffs : List ℤ) (n : MbNeighbors) (k : ℕ) where
+module _ (modes : List IntraBmode) (skip : Bool) (coeffs : List ℤ) (n : LumaEdges) (k : ℕ) where
   abbrev pub before : List ℕ
   before = walked k modes skip coeffs (startOf n)
 

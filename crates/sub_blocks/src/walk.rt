@@ -14,7 +14,7 @@ use crate::put::sum_block;
 use crate::window::corner_of;
 use crate::window::predict;
 use macroblock::IntraBmode;
-use macroblock::MbNeighbors;
+use macroblock::LumaEdges;
 use work_buffer::LENGTH;
 
 // The luma of a macroblock in mode B, and how many sums were below 0 or above 255.
@@ -104,12 +104,12 @@ fn walk(b: &mut [u8; LENGTH], modes: [IntraBmode; 16], skip: bool, coeffs: &[i16
 pub fn luma_parts(
     modes: [IntraBmode; 16],
     skip: bool,
-    neighbors: MbNeighbors,
+    edges: LumaEdges,
     coeffs: &[i16],
 ) -> LumaParts
-    ensures { λ r. ⌜ r ≡ partsDrawn modes skip neighbors (now (coeffs .entry)) ⌝ }
+    ensures { λ r. ⌜ r ≡ partsDrawn modes skip edges (now (coeffs .entry)) ⌝ }
 {
-    let mut b = work_buffer::start(neighbors);
+    let mut b = work_buffer::start(edges);
     let n = walk(&mut b, modes, skip, coeffs);
     let pixels = work_buffer::luma_of(&b);
     LumaParts { pixels, clipped: n }

@@ -12,9 +12,12 @@
 //        row 16   l . . . . . . . . . . . . . . . . - - - -      - is never read
 ghost use mathlib.Core.Path.{_≡_};
 ghost use Prim.Native.Nat.{_+_, _*_, _<_, _≤_};
-ghost use lib.ListN.{length, set};
+ghost use lib.ListN.{length};
+ghost use Rattle.lists.specs.Lists.{pick, part};
 ghost use Rattle.rfc6386.specs.Edges.{edgeOr};
-ghost use Rattle.rfc6386.specs.Walk.{laid, blank, copiedDown, bordered, startOf};
+ghost use Rattle.rfc6386.specs.Walk.{laid, blank, copiedDown, bordered, rowOr, startOf};
+ghost use Rattle.work_buffer.specs.Steps.{covered, firstRow};
+use macroblock::LumaEdges;
 use macroblock::MbNeighbors;
 
 pub const LENGTH: usize = 17 * MbNeighbors::STRIDE;
@@ -49,22 +52,49 @@ fn copy_down(b: &mut [u8; LENGTH], right: &[u8; 4])
     }
 }
 
-// Row 0.
-fn top_row(p: u8, above: [u8; 16], right: &[u8; 4]) -> [u8; LENGTH]
-    ensures { λ r. ⌜ r ≡ laid 4 17 1 (now (right .entry)) (laid 16 1 1 above (set blank 0 p)) ⌝ }
+// 127 over the `n` pixels of a row from `at` on, unless they are there.
+fn cover(row: &mut [u8; MbNeighbors::STRIDE], at: usize, n: usize, there: bool)
+    requires { ⌜ at + n ≤ 21 ⌝ }
+    ensures { λ _. ⌜ now (row .exit) ≡ pick there (now (row .entry)) (covered at n (now (row .entry))) ⌝ }
 {
-    let mut b = blank();
-    b[0] = p;
-    lay(&mut b, 1, 1, &above, 16);
-    lay(&mut b, 17, 1, right, 4);
-    b
+    if there {
+        return;
+    }
+    for i in 0..n {
+        row[at + i] = MbNeighbors::ABOVE;
+    }
 }
 
-fn bordered(p: u8, above: [u8; 16], left: [u8; 16], right: [u8; 4]) -> [u8; LENGTH]
-    ensures { λ r. ⌜ r ≡ bordered p above left right ⌝ }
+// Row 0: the record's row, with 127 over each part that is absent.
+fn first_row(
+    given: [u8; MbNeighbors::STRIDE],
+    topleft_there: bool,
+    above_there: bool,
+    above_right_there: bool,
+) -> [u8; MbNeighbors::STRIDE]
+    ensures { λ r. ⌜ r ≡ firstRow given «topleft_there» «above_there» «above_right_there» ⌝ }
 {
-    let mut b = top_row(p, above, &right);
+    let mut row = given;
+    cover(&mut row, 0, 1, topleft_there);
+    cover(&mut row, 1, 16, above_there);
+    cover(&mut row, 17, 4, above_right_there);
+    row
+}
+
+// The last four of row 0.
+fn right_of(row: [u8; MbNeighbors::STRIDE]) -> [u8; 4]
+    ensures { λ r. ⌜ r ≡ part 4 row 17 ⌝ }
+{
+    [row[17], row[18], row[19], row[20]]
+}
+
+fn bordered(row: [u8; MbNeighbors::STRIDE], left: [u8; 16]) -> [u8; LENGTH]
+    ensures { λ r. ⌜ r ≡ bordered row left ⌝ }
+{
+    let mut b = blank();
+    lay(&mut b, 0, 1, &row, MbNeighbors::STRIDE);
     lay(&mut b, MbNeighbors::STRIDE, MbNeighbors::STRIDE, &left, 16);
+    let right = right_of(row);
     copy_down(&mut b, &right);
     b
 }
@@ -75,27 +105,17 @@ fn edge_or(other: u8, pixels: [u8; 16], there: bool) -> [u8; 16]
     if there { pixels } else { [other; 16] }
 }
 
-fn right_or(other: u8, pixels: [u8; 4], there: bool) -> [u8; 4]
-    ensures { λ r. ⌜ r ≡ edgeOr 4 other pixels there ⌝ }
+// The border pixels in their places; what stands for an absent one is 127 in the row above, 129 to the left.
+pub fn start(edges: LumaEdges) -> [u8; LENGTH]
+    ensures { λ r. ⌜ r ≡ startOf edges ⌝ }
 {
-    if there { pixels } else { [other; 4] }
-}
-
-// The border pixels in their places; what stands for an absent one is 127 above and at the top-left, 129 to the left.
-pub fn start(neighbors: MbNeighbors) -> [u8; LENGTH]
-    ensures { λ r. ⌜ r ≡ startOf neighbors ⌝ }
-{
-    let above = neighbors.y_above;
-    let left = neighbors.y_left;
-    let right = neighbors.y_above_right;
-    bordered(
-        blocks::pixel_or(
-            MbNeighbors::ABOVE,
-            neighbors.y_topleft,
-            neighbors.y_topleft_there,
-        ),
-        edge_or(MbNeighbors::ABOVE, above, neighbors.y_above_there),
-        edge_or(MbNeighbors::LEFT, left, neighbors.y_left_there),
-        right_or(MbNeighbors::ABOVE, right, neighbors.y_above_right_there),
-    )
+    let given = edges.row;
+    let left = edges.left;
+    let row = first_row(
+        given,
+        edges.topleft_there,
+        edges.above_there,
+        edges.above_right_there,
+    );
+    bordered(row, edge_or(MbNeighbors::LEFT, left, edges.left_there))
 }

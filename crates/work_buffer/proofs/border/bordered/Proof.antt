@@ -6,9 +6,9 @@ use Rattle.work_buffer.proofs.border.bordered.Tie as tie
 
 returns : tie.Need-returns
 unfolding bordered
-returns c = rw (c .copy-down .ensures, c .before .before .before .lay .ensures, c .before .before .before .before .before .before .top-row .ensures)
+returns c = cc
 
 pub bordered-spec : {M : Type 1} → statement M
 bordered-spec =
     tie.close
-    (tie.spec (λ c κs. search needs) (λ c. search needs) (λ c κs. search needs) (λ c κs. search needs) returns)
+    (tie.spec (λ c κs. search needs) (λ c. search needs) (λ c κs. search needs) (λ c. search needs) (λ c κs. search needs) (λ c κs. search needs) (λ c κs. search needs) returns)

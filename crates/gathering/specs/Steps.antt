@@ -1,11 +1,10 @@
--- A name for gathering's private steps.
-use Prim.Native.Nat.{ℕ}
+-- A name for a step of gathering.
+use Prim.Native.Nat.{ℕ, _-_}
 use mathlib.Core.List.{List}
-use mathlib.Core.Path.{_≡_}
-use Rattle.rfc6386.specs.Picture.{topLeftOf, aboveOf, leftOf}
+use lib.Dec.{ltb, leb}
+use lib.ListN.{getD, length}
+use Rattle.lists.specs.Lists.{pick}
 
--- p, above and left are the top-left pixel of the macroblock in column c and row r, the row above it and the column left of it
-pub record Edges (n : ℕ) (l : List ℕ) (w r c p : ℕ) (above left : List ℕ) : Type 0 where
-  pub corner : p ≡ topLeftOf n l w r c
-  pub row : above ≡ aboveOf n l w r c
-  pub column : left ≡ leftOf n l w r c
+-- pixel x of a row of the picture, the row by itself
+unfoldable pub pixelIn : List ℕ → List ℕ → ℕ → ℕ
+pixelIn row right x = pick (ltb x 1) 129 (pick (leb x (length row)) (getD row (x - 1) 0) (getD right (x - length row - 1) 0))

@@ -1,90 +1,84 @@
 // The edges of a macroblock that lies in its plane, over the side n: 16 pixels in Y, 8 in U and V. The macroblock stands in
 // column c and row r of a picture w macroblocks wide, so that a row of the plane has n w pixels. Each edge is written over
-// zero bytes, which stay where the edge is absent.
+// zero bytes, which stay where it is absent.
 ghost use mathlib.Core.Path.{_≡_};
-ghost use Prim.Native.Nat.{_+_, _*_, _≤_, _<_};
+ghost use Prim.Native.Nat.{_+_, _*_, _-_, _≤_, _<_};
 ghost use lib.ListN.{length, take, getD, replicate};
 ghost use Rattle.lists.specs.Lists.{table};
-ghost use Rattle.rfc6386.specs.Picture.{aboveOf, leftOf, topLeftOf, aboveRightOf};
+ghost use Rattle.rfc6386.specs.Picture.{pixelOf, rowAbove, leftOf};
 ghost use Rattle.picture_limits.specs.Place.{Placed};
-ghost use Rattle.gathering.specs.Steps.{Edges};
+ghost use Rattle.gathering.specs.Steps.{pixelIn};
 use macroblock::MbNeighbors;
 use row_part::row_part;
 
-// The row above and the left column, and the top-left pixel as the answer.
-pub(crate) fn plane_edges(
-    above: &mut [u8],
-    left: &mut [u8],
+// Pixel x of a row of the picture, counted from the border on: the border's, the row's own, those right of it.
+fn pixel_of(row: &[u8], right: &[u8; 4], x: usize) -> u8
+    requires { ⌜ x ≤ length (now row) + 4 ⌝ }
+    ensures { λ p. ⌜ p ≡ pixelIn (now (row .entry)) (now (right .entry)) x ⌝ }
+{
+    if x < 1 {
+        return MbNeighbors::LEFT;
+    }
+    if x <= row.len() {
+        return row[x - 1];
+    }
+    right[x - row.len() - 1]
+}
+
+// As many pixels as dst has, from pixel x of a row of the picture on.
+fn border_row(dst: &mut [u8], row: &[u8], right: &[u8; 4], x: usize)
+    requires { ⌜ (x + length (now dst) ≤ length (now row) + 5) × (length (now row) ≤ 1048576) ⌝ }
+    ensures { λ _. ⌜ now (dst .exit) ≡ table (length (now (dst .entry))) (λ i. pixelIn (now (row .entry)) (now (right .entry)) (x + i)) ⌝ }
+{
+    for i in 0..dst.len() {
+        dst[i] = pixel_of(row, right, x + i);
+    }
+}
+
+// The row above: row n r - 1 from the pixel before column n c on. Inside the picture it is one part of the plane.
+pub(crate) fn row_above(
+    dst: &mut [u8],
     plane: &[u8],
     n: usize,
     w: usize,
     r: usize,
     c: usize,
-) -> u8
-    requires { ⌜ Placed n (now plane) w r c × (now above ≡ replicate n 0) × (now left ≡ replicate n 0) ⌝ }
-    ensures { λ p. ⌜ Edges n (now (plane .entry)) w r c p (now (above .exit)) (now (left .exit)) ⌝ }
+    right: &[u8; 4],
+)
+    requires { ⌜ Placed n (now plane) w r c × (now dst ≡ replicate (length (now dst)) 0) × (1 ≤ length (now dst)) × (length (now dst) ≤ n + 5) × (n * w ≤ 1048576) ⌝ }
+    ensures { λ _. ⌜ now (dst .exit) ≡ rowAbove n (length (now (dst .entry))) (now (plane .entry)) w r c (now (right .entry)) ⌝ }
 {
-    row_above(above, plane, n, w, r, c);
-    left_column(left, plane, n, w, r, c);
-    top_left(plane, n, w, r, c)
-}
-
-// Row n r - 1, through the part of the plane that it is.
-fn row_above(dst: &mut [u8], plane: &[u8], n: usize, w: usize, r: usize, c: usize)
-    requires { ⌜ Placed n (now plane) w r c × (now dst ≡ replicate n 0) ⌝ }
-    ensures { λ _. ⌜ now (dst .exit) ≡ aboveOf n (now (plane .entry)) w r c ⌝ }
-{
-    if 0 < r {
-        let part = row_part(plane, n * w, n * r - 1, n * c, n);
-        copy(dst, part);
+    if r == 0 {
+        return;
     }
+    let stride = n * w;
+    let x = n * c;
+    if 0 < c {
+        if x - 1 + dst.len() <= stride {
+            let part = row_part(plane, stride, n * r - 1, x - 1, dst.len());
+            copy(dst, part);
+            return;
+        }
+    }
+    let row = row_part(plane, stride, n * r - 1, 0, stride);
+    border_row(dst, row, right, x);
 }
 
 // Column n c - 1, from row n r on.
-fn left_column(dst: &mut [u8], plane: &[u8], n: usize, w: usize, r: usize, c: usize)
+pub(crate) fn left_column(
+    dst: &mut [u8],
+    plane: &[u8],
+    n: usize,
+    w: usize,
+    r: usize,
+    c: usize,
+)
     requires { ⌜ Placed n (now plane) w r c × (now dst ≡ replicate n 0) ⌝ }
     ensures { λ _. ⌜ now (dst .exit) ≡ leftOf n (now (plane .entry)) w r c ⌝ }
 {
     if 0 < c {
         let stride = n * w;
         column(dst, plane, n * r * stride + (n * c - 1), stride);
-    }
-}
-
-// The pixel of row n r - 1 and column n c - 1; left of the picture, the border's.
-fn top_left(plane: &[u8], n: usize, w: usize, r: usize, c: usize) -> u8
-    requires { ⌜ Placed n (now plane) w r c ⌝ }
-    ensures { λ p. ⌜ p ≡ topLeftOf n (now (plane .entry)) w r c ⌝ }
-{
-    if 0 < r {
-        if 0 < c {
-            let stride = n * w;
-            return plane[(n * r - 1) * stride + (n * c - 1)];
-        }
-        return MbNeighbors::LEFT;
-    }
-    0
-}
-
-// The four luma pixels right of the row above, or those given where the picture ends.
-pub(crate) fn above_right(
-    dst: &mut [u8],
-    plane: &[u8],
-    w: usize,
-    r: usize,
-    c: usize,
-    given: &[u8; 4],
-)
-    requires { ⌜ Placed 16 (now plane) w r c × (now dst ≡ replicate 4 0) ⌝ }
-    ensures { λ _. ⌜ now (dst .exit) ≡ aboveRightOf (now (plane .entry)) w r c (now (given .entry)) ⌝ }
-{
-    if 0 < r {
-        if c + 1 < w {
-            let part = row_part(plane, 16 * w, 16 * r - 1, 16 * c + 16, 4);
-            copy(dst, part);
-        } else {
-            copy(dst, given);
-        }
     }
 }
 

@@ -1,21 +1,19 @@
 -- The neighbour record as 81 bytes: ten marks of 0 or 1, then the pixels.
 --
---        at       0    1    2    3    4    5    6    7    8    9
---        mark     Y topleft, above, above-right, left;  U topleft, above, left;  V topleft, above, left
+--        at       0                                  4               7
+--        mark     Y top-left above above-right left  U .. above left V .. above left
 --
---        at      10   11..26   27..30         31..46   47   48..55  56..63   64   65..72  73..80
---        pixels  Y tl above    above-right    left     U tl above   left     V tl above   left
+--        at      10 .. 30     31 .. 46   47 .. 55  56 .. 63   64 .. 72  73 .. 80
+--        pixels  Y row of 21  left       U row     left       V row     left
 use Prim.Native.Nat.{ℕ, zero, suc, _+_}
 use mathlib.Core.Bool.{Bool, true}
 use mathlib.Core.List.{List, [], _∷_, _++_}
 use lib.Dec.{leb, eqb}
 use lib.ListN.{getD}
-use Rattle.lists.specs.Lists.{table, pick, both}
+use Rattle.lists.specs.Lists.{pick, both, part}
+use Rattle.macroblock.specs.declared.neighbors.LumaEdges.{LumaEdges}
+use Rattle.macroblock.specs.declared.neighbors.ChromaEdges.{ChromaEdges}
 use Rattle.macroblock.specs.declared.neighbors.MbNeighbors.{MbNeighbors}
-
--- n bytes from `at` on
-unfoldable pub part : ℕ → List ℕ → ℕ → List ℕ
-part n s at = table n (λ i. getD s (at + i) 0)
 
 -- a mark is there where its byte is 1
 abbrev pub marked : List ℕ → ℕ → Bool
@@ -30,50 +28,48 @@ within m (suc k) s = both (leb (getD s k 0) m) (within m k s)
 unfoldable pub marksKnown : List ℕ → Bool
 marksKnown s = within 1 10 s
 
--- the record of 81 bytes
-unfoldable pub recordOf : List ℕ → MbNeighbors
-recordOf s =
+-- ---- the record of 81 bytes
+unfoldable pub lumaOf : List ℕ → LumaEdges
+lumaOf s =
     record {
-      «y_topleft» = getD s 10 0;
-      «y_topleft_there» = marked s 0;
-      «y_above» = part 16 s 11;
-      «y_above_there» = marked s 1;
-      «y_above_right» = part 4 s 27;
-      «y_above_right_there» = marked s 2;
-      «y_left» = part 16 s 31;
-      «y_left_there» = marked s 3;
-      «u_topleft» = getD s 47 0;
-      «u_topleft_there» = marked s 4;
-      «u_above» = part 8 s 48;
-      «u_above_there» = marked s 5;
-      «u_left» = part 8 s 56;
-      «u_left_there» = marked s 6;
-      «v_topleft» = getD s 64 0;
-      «v_topleft_there» = marked s 7;
-      «v_above» = part 8 s 65;
-      «v_above_there» = marked s 8;
-      «v_left» = part 8 s 73;
-      «v_left_there» = marked s 9;
+      row = part 21 s 10;
+      «topleft_there» = marked s 0;
+      «above_there» = marked s 1;
+      «above_right_there» = marked s 2;
+      left = part 16 s 31;
+      «left_there» = marked s 3;
     }
 
+-- the marks from byte `mark` on, the pixels from byte `at` on
+unfoldable pub chromaOf : List ℕ → ℕ → ℕ → ChromaEdges
+chromaOf s mark at =
+    record {
+      row = part 9 s at;
+      «topleft_there» = marked s mark;
+      «above_there» = marked s (mark + 1);
+      left = part 8 s (at + 9);
+      «left_there» = marked s (mark + 2);
+    }
+
+unfoldable pub recordOf : List ℕ → MbNeighbors
+recordOf s = record { y = lumaOf s; u = chromaOf s 4 47; v = chromaOf s 7 64 }
+
+-- ---- the 81 bytes of a record
 abbrev pub markOf : Bool → ℕ
 markOf there = pick there 1 0
 
--- the 81 bytes of a record
-unfoldable pub marksOf : MbNeighbors → List ℕ
-marksOf n =
-    markOf (n .«y_topleft_there») ∷ markOf (n .«y_above_there») ∷ markOf (n .«y_above_right_there») ∷ markOf (n .«y_left_there») ∷
-    markOf (n .«u_topleft_there») ∷ markOf (n .«u_above_there») ∷ markOf (n .«u_left_there») ∷
-    markOf (n .«v_topleft_there») ∷ markOf (n .«v_above_there») ∷ markOf (n .«v_left_there») ∷ []
+unfoldable pub lumaMarks : LumaEdges → List ℕ
+lumaMarks e = markOf (e .«topleft_there») ∷ markOf (e .«above_there») ∷ markOf (e .«above_right_there») ∷ markOf (e .«left_there») ∷ []
 
-unfoldable pub lumaBytes : MbNeighbors → List ℕ
-lumaBytes n = (n .«y_topleft» ∷ []) ++ (part 16 (n .«y_above») 0 ++ (part 4 (n .«y_above_right») 0 ++ part 16 (n .«y_left») 0))
+unfoldable pub chromaMarks : ChromaEdges → List ℕ
+chromaMarks e = markOf (e .«topleft_there») ∷ markOf (e .«above_there») ∷ markOf (e .«left_there») ∷ []
 
-unfoldable pub chromaBytes : ℕ → List ℕ → List ℕ → List ℕ
-chromaBytes topleft above left = (topleft ∷ []) ++ (part 8 above 0 ++ part 8 left 0)
+unfoldable pub lumaBytes : LumaEdges → List ℕ
+lumaBytes e = part 21 (e .row) 0 ++ part 16 (e .left) 0
+
+unfoldable pub chromaBytes : ChromaEdges → List ℕ
+chromaBytes e = part 9 (e .row) 0 ++ part 8 (e .left) 0
 
 unfoldable pub bytesOf : MbNeighbors → List ℕ
 bytesOf n =
-    marksOf n
-    ++ (lumaBytes n
-    ++ (chromaBytes (n .«u_topleft») (n .«u_above») (n .«u_left») ++ chromaBytes (n .«v_topleft») (n .«v_above») (n .«v_left»)))
+    lumaMarks (n .y) ++ (chromaMarks (n .u) ++ (chromaMarks (n .v) ++ (lumaBytes (n .y) ++ (chromaBytes (n .u) ++ chromaBytes (n .v)))))

@@ -3,8 +3,11 @@
 ghost use mathlib.Core.Path.{_≡_};
 ghost use Prim.Native.Nat.{_+_, _<_, _≤_};
 ghost use lib.ListN.{length};
-ghost use Rattle.record_bytes.specs.Bytes.{part, marked, within, marksKnown, recordOf, markOf, bytesOf};
-ghost use Rattle.record_bytes.specs.Steps.{lumaRead, uRead, vRead, laidAt, blank, lumaMarksLaid, chromaMarksLaid, lumaLaid, chromaLaid};
+ghost use Rattle.lists.specs.Lists.{part};
+ghost use Rattle.record_bytes.specs.Bytes.{marked, within, marksKnown, lumaOf, chromaOf, recordOf, markOf, bytesOf};
+ghost use Rattle.record_bytes.specs.Steps.{laidAt, blank, lumaMarksLaid, chromaMarksLaid, marksLaid, lumaLaid, chromaLaid};
+use macroblock::ChromaEdges;
+use macroblock::LumaEdges;
 use macroblock::MbNeighbors;
 
 // Whether the first `n` bytes are at most `most`.
@@ -45,11 +48,27 @@ fn take_part(to: &mut [u8], s: &[u8], at: usize)
     }
 }
 
-fn sixteen_at(bytes: &[u8; 81], at: usize) -> [u8; 16]
-    requires { ⌜ at + 16 ≤ 81 ⌝ }
-    ensures { λ r. ⌜ r ≡ part 16 (now (bytes .entry)) at ⌝ }
+fn row_at(bytes: &[u8; 81]) -> [u8; 21]
+    ensures { λ r. ⌜ r ≡ part 21 (now (bytes .entry)) 10 ⌝ }
+{
+    let mut to = [0u8; 21];
+    take_part(&mut to, bytes, 10);
+    to
+}
+
+fn column_at(bytes: &[u8; 81]) -> [u8; 16]
+    ensures { λ r. ⌜ r ≡ part 16 (now (bytes .entry)) 31 ⌝ }
 {
     let mut to = [0u8; 16];
+    take_part(&mut to, bytes, 31);
+    to
+}
+
+fn nine_at(bytes: &[u8; 81], at: usize) -> [u8; 9]
+    requires { ⌜ at + 9 ≤ 81 ⌝ }
+    ensures { λ r. ⌜ r ≡ part 9 (now (bytes .entry)) at ⌝ }
+{
+    let mut to = [0u8; 9];
     take_part(&mut to, bytes, at);
     to
 }
@@ -63,15 +82,6 @@ fn eight_at(bytes: &[u8; 81], at: usize) -> [u8; 8]
     to
 }
 
-fn four_at(bytes: &[u8; 81], at: usize) -> [u8; 4]
-    requires { ⌜ at + 4 ≤ 81 ⌝ }
-    ensures { λ r. ⌜ r ≡ part 4 (now (bytes .entry)) at ⌝ }
-{
-    let mut to = [0u8; 4];
-    take_part(&mut to, bytes, at);
-    to
-}
-
 fn marked(bytes: &[u8; 81], k: usize) -> bool
     requires { ⌜ k < 81 ⌝ }
     ensures { λ r. ⌜ r ≡ marked (now (bytes .entry)) k ⌝ }
@@ -80,60 +90,45 @@ fn marked(bytes: &[u8; 81], k: usize) -> bool
 }
 
 // The luma edges of the record.
-fn with_luma(n: MbNeighbors, bytes: &[u8; 81]) -> MbNeighbors
-    ensures { λ r. ⌜ r ≡ lumaRead n (now (bytes .entry)) ⌝ }
+fn luma_of(bytes: &[u8; 81]) -> LumaEdges
+    ensures { λ r. ⌜ r ≡ lumaOf (now (bytes .entry)) ⌝ }
 {
-    let mut m = n;
-    m.y_topleft = bytes[10];
-    m.y_topleft_there = marked(bytes, 0);
-    let above = sixteen_at(bytes, 11);
-    m.y_above = above;
-    m.y_above_there = marked(bytes, 1);
-    let right = four_at(bytes, 27);
-    m.y_above_right = right;
-    m.y_above_right_there = marked(bytes, 2);
-    let left = sixteen_at(bytes, 31);
-    m.y_left = left;
-    m.y_left_there = marked(bytes, 3);
-    m
+    let row = row_at(bytes);
+    let left = column_at(bytes);
+    LumaEdges {
+        row,
+        topleft_there: marked(bytes, 0),
+        above_there: marked(bytes, 1),
+        above_right_there: marked(bytes, 2),
+        left,
+        left_there: marked(bytes, 3),
+    }
 }
 
-fn with_u(n: MbNeighbors, bytes: &[u8; 81]) -> MbNeighbors
-    ensures { λ r. ⌜ r ≡ uRead n (now (bytes .entry)) ⌝ }
+// The edges of U or V, their marks from byte `mark` on, their pixels from byte `at` on.
+fn chroma_of(bytes: &[u8; 81], mark: usize, at: usize) -> ChromaEdges
+    requires { ⌜ (mark + 3 ≤ 81) × (at + 17 ≤ 81) ⌝ }
+    ensures { λ r. ⌜ r ≡ chromaOf (now (bytes .entry)) mark at ⌝ }
 {
-    let mut m = n;
-    m.u_topleft = bytes[47];
-    m.u_topleft_there = marked(bytes, 4);
-    let above = eight_at(bytes, 48);
-    m.u_above = above;
-    m.u_above_there = marked(bytes, 5);
-    let left = eight_at(bytes, 56);
-    m.u_left = left;
-    m.u_left_there = marked(bytes, 6);
-    m
-}
-
-fn with_v(n: MbNeighbors, bytes: &[u8; 81]) -> MbNeighbors
-    ensures { λ r. ⌜ r ≡ vRead n (now (bytes .entry)) ⌝ }
-{
-    let mut m = n;
-    m.v_topleft = bytes[64];
-    m.v_topleft_there = marked(bytes, 7);
-    let above = eight_at(bytes, 65);
-    m.v_above = above;
-    m.v_above_there = marked(bytes, 8);
-    let left = eight_at(bytes, 73);
-    m.v_left = left;
-    m.v_left_there = marked(bytes, 9);
-    m
+    let row = nine_at(bytes, at);
+    let left = eight_at(bytes, at + 9);
+    ChromaEdges {
+        row,
+        topleft_there: marked(bytes, mark),
+        above_there: marked(bytes, mark + 1),
+        left,
+        left_there: marked(bytes, mark + 2),
+    }
 }
 
 // The record that the bytes stand for; a mark is there where its byte is 1.
 pub fn neighbors_of(bytes: [u8; 81]) -> MbNeighbors
     ensures { λ r. ⌜ r ≡ recordOf bytes ⌝ }
 {
-    let n = with_luma(MbNeighbors::absent(), &bytes);
-    with_v(with_u(n, &bytes), &bytes)
+    let y = luma_of(&bytes);
+    let u = chroma_of(&bytes, 4, 47);
+    let v = chroma_of(&bytes, 7, 64);
+    MbNeighbors { y, u, v }
 }
 
 fn mark(there: bool) -> u8
@@ -158,60 +153,66 @@ fn blank() -> [u8; 81]
     [0u8; 81]
 }
 
-fn lay_luma_marks(b: &mut [u8; 81], n: MbNeighbors)
-    ensures { λ _. ⌜ now (b .exit) ≡ lumaMarksLaid n (now (b .entry)) ⌝ }
+fn lay_luma_marks(b: &mut [u8; 81], e: LumaEdges)
+    ensures { λ _. ⌜ now (b .exit) ≡ lumaMarksLaid e (now (b .entry)) ⌝ }
 {
-    b[0] = mark(n.y_topleft_there);
-    b[1] = mark(n.y_above_there);
-    b[2] = mark(n.y_above_right_there);
-    b[3] = mark(n.y_left_there);
+    b[0] = mark(e.topleft_there);
+    b[1] = mark(e.above_there);
+    b[2] = mark(e.above_right_there);
+    b[3] = mark(e.left_there);
 }
 
-fn lay_chroma_marks(b: &mut [u8; 81], n: MbNeighbors)
-    ensures { λ _. ⌜ now (b .exit) ≡ chromaMarksLaid n (now (b .entry)) ⌝ }
+fn lay_chroma_marks(b: &mut [u8; 81], at: usize, e: ChromaEdges)
+    requires { ⌜ at + 3 ≤ 81 ⌝ }
+    ensures { λ _. ⌜ now (b .exit) ≡ chromaMarksLaid at e (now (b .entry)) ⌝ }
 {
-    b[4] = mark(n.u_topleft_there);
-    b[5] = mark(n.u_above_there);
-    b[6] = mark(n.u_left_there);
-    b[7] = mark(n.v_topleft_there);
-    b[8] = mark(n.v_above_there);
-    b[9] = mark(n.v_left_there);
+    b[at] = mark(e.topleft_there);
+    b[at + 1] = mark(e.above_there);
+    b[at + 2] = mark(e.left_there);
 }
 
-fn lay_luma(b: &mut [u8; 81], topleft: u8, above: [u8; 16], right: [u8; 4], left: [u8; 16])
-    ensures { λ _. ⌜ now (b .exit) ≡ lumaLaid topleft above right left (now (b .entry)) ⌝ }
+fn lay_luma(b: &mut [u8; 81], row: [u8; 21], left: [u8; 16])
+    ensures { λ _. ⌜ now (b .exit) ≡ lumaLaid row left (now (b .entry)) ⌝ }
 {
-    b[10] = topleft;
-    lay(b, 11, &above, 16);
-    lay(b, 27, &right, 4);
+    lay(b, 10, &row, 21);
     lay(b, 31, &left, 16);
 }
 
-fn lay_chroma(b: &mut [u8; 81], at: usize, topleft: u8, above: [u8; 8], left: [u8; 8])
+fn lay_chroma(b: &mut [u8; 81], at: usize, row: [u8; 9], left: [u8; 8])
     requires { ⌜ at + 17 ≤ 81 ⌝ }
-    ensures { λ _. ⌜ now (b .exit) ≡ chromaLaid at topleft above left (now (b .entry)) ⌝ }
+    ensures { λ _. ⌜ now (b .exit) ≡ chromaLaid at row left (now (b .entry)) ⌝ }
 {
-    b[at] = topleft;
-    lay(b, at + 1, &above, 8);
+    lay(b, at, &row, 9);
     lay(b, at + 9, &left, 8);
+}
+
+// The marks of a record, in their places.
+fn marks_laid(n: MbNeighbors) -> [u8; 81]
+    ensures { λ r. ⌜ r ≡ marksLaid n ⌝ }
+{
+    let mut b = blank();
+    lay_luma_marks(&mut b, n.y);
+    lay_chroma_marks(&mut b, 4, n.u);
+    lay_chroma_marks(&mut b, 7, n.v);
+    b
 }
 
 // The 81 bytes of a record.
 pub fn bytes_of(n: MbNeighbors) -> [u8; 81]
     ensures { λ r. ⌜ r ≡ bytesOf n ⌝ }
 {
-    let y_above = n.y_above;
-    let right = n.y_above_right;
-    let y_left = n.y_left;
-    let u_above = n.u_above;
-    let u_left = n.u_left;
-    let v_above = n.v_above;
-    let v_left = n.v_left;
-    let mut b = blank();
-    lay_luma_marks(&mut b, n);
-    lay_chroma_marks(&mut b, n);
-    lay_luma(&mut b, n.y_topleft, y_above, right, y_left);
-    lay_chroma(&mut b, 47, n.u_topleft, u_above, u_left);
-    lay_chroma(&mut b, 64, n.v_topleft, v_above, v_left);
+    let y = n.y;
+    let y_row = y.row;
+    let y_left = y.left;
+    let u = n.u;
+    let u_row = u.row;
+    let u_left = u.left;
+    let v = n.v;
+    let v_row = v.row;
+    let v_left = v.left;
+    let mut b = marks_laid(n);
+    lay_luma(&mut b, y_row, y_left);
+    lay_chroma(&mut b, 47, u_row, u_left);
+    lay_chroma(&mut b, 64, v_row, v_left);
     b
 }

@@ -16,6 +16,7 @@ beside-requires c κs =
       placed 16 _ _ _ _ _ (omega arith) (a .column) (a .row) (b .y-plane),
       placed 8 _ _ _ _ _ (omega arith) (a .column) (a .row) (b .u-plane),
       placed 8 _ _ _ _ _ (omega arith) (a .column) (a .row) (b .v-plane),
+      a .width,
     )
 
 returns : tie.Need-returns

@@ -9,24 +9,12 @@ returns c =
     let c1 = c .before .before in
     let c2 = c1 .before .before in
     let c3 = c2 .before .before in
-    let c4 = c3 .before .before in
-    let c5 = c4 .before .before in
-    rw (
-      c .lay-chroma2 .ensures,
-      c1 .lay-chroma .ensures,
-      c2 .lay-luma .ensures,
-      c3 .lay-chroma-marks .ensures,
-      c4 .lay-luma-marks .ensures,
-      c5 .blank .ensures,
-    )
-    (laid-is _)
+    rw (c .lay-chroma2 .ensures, c1 .lay-chroma .ensures, c2 .lay-luma .ensures, c3 .marks-laid .ensures) (laid-is _)
 
 pub bytes-of-spec : {M : Type 1} → statement M
 bytes-of-spec =
     tie.close
     (tie.spec
-    (λ c κs. search needs)
-    (λ c κs. search needs)
     (λ c κs. search needs)
     (λ c κs. search needs)
     (λ c κs. search needs)

@@ -1,3 +1,4 @@
+-- `record_bytes::lay_chroma_marks` meets its contract. Assumes nothing.
 use Rattle.record_bytes.specs.Steps.{chromaMarksLaid}
 use borrow.Author.Needs.{needs}
 use Rattle.record_bytes.proofs.lay_chroma_marks.Statement.{statement}
@@ -15,12 +16,8 @@ lay-chroma-marks-spec =
     (λ c. search needs)
     (λ c κs. search needs)
     (λ c. search needs)
-    (λ c κs. search needs)
     (λ c. search needs)
     (λ c κs. search needs)
     (λ c. search needs)
-    (λ c κs. search needs)
-    (λ c. search needs)
-    (λ c κs. search needs)
     (λ c. search needs)
     returns)

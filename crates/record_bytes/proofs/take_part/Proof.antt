@@ -4,9 +4,8 @@ use mathlib.Core.Path.{_≡_, refl}
 use mathlib.Core.List.{_++_}
 use native.Mathlib.Omega.{arith}
 use lib.ListN.{getD, length, drop, length-set}
-use Rattle.lists.specs.Lists.{table}
+use Rattle.lists.specs.Lists.{table, part}
 use Rattle.lists.proofs.Table.{table-none, table-turn, table-done}
-use Rattle.record_bytes.specs.Bytes.{part}
 use Rattle.record_bytes.proofs.take_part.Statement.{statement}
 use Rattle.record_bytes.proofs.take_part.Tie as tie
 

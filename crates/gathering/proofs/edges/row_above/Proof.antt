@@ -1,45 +1,79 @@
--- `gathering::edges::row_above` meets its contract: below the first row the plane has the part, and all of it is copied. Assumes nothing.
+-- `gathering::edges::row_above` meets its contract: inside the picture the plane has the part, and all of it is copied; at its ends the
+-- picture's row is read pixel by pixel. Assumes nothing.
 use native.Mathlib.Omega.{arith}
 use borrow.Author.Needs.{needs}
-use borrow.Author.Tests.{lt-ltb, le-ltb}
-use Rattle.rfc6386.specs.Picture.{aboveOf}
-use Rattle.picture_limits.proofs.Bounds.{Above, bounds, above}
-use Rattle.gathering.proofs.Copied.{upper-fits, upper-copied}
+use borrow.Author.Tests.{le-ltb}
+use Rattle.rfc6386.specs.Picture.{rowAbove}
+use Rattle.picture_limits.proofs.Bounds.{Above, Left, above, left, bounds}
+use Rattle.gathering.proofs.Copied.{row-length, border-is, inside-length, inside-is}
 use Rattle.gathering.proofs.edges.row_above.Statement.{statement}
 use Rattle.gathering.proofs.edges.row_above.Tie as tie
 
-up : (c : tie.Then1) → (let a = c .before .before .before .args in Above (a .n) (a .plane .now) (a .w) (a .r) (a .c))
-up c = above (c .before .before .before .pre .0) (c .if1 .taken)
+-- below the first row
+up : (c : tie.Else1) → (let a = c .before .before .before .args in Above (a .n) (a .plane .now) (a .w) (a .r) (a .c))
+up c = above (c .before .before .before .pre .0) (omega arith)
+
+-- and right of the first column
+side : (c : tie.Then2) → (let a = c .before .before .before .before .args in Left (a .n) (a .plane .now) (a .w) (a .r) (a .c))
+side c = left (c .before .before .before .before .pre .0) (c .if2 .taken)
+
+returns : tie.Need-returns
+unfolding rowAbove
+returns c =
+    let s = c .before .before .before in
+    rw (le-ltb 0 (s .args .r) (omega arith)) (s .pre .1)
 
 copy-requires : tie.Need-copy-requires
 copy-requires c κs =
     let t = c .before .before in
-    let b = t .before .before .before .pre in
-    upper-fits (b .0) (t .if1 .taken) _ _ (b .0 .some) (bounds (b .0) .column) _ _ (b .1) (c .before .row-part .ensures .0)
-
-returns : tie.Need-returns
-unfolding aboveOf
-returns c =
-    let e = c .before .before .before .before in
-    let t = e .before in
-    let b = t .before .before .before .pre in
-    rw (lt-ltb _ _ (t .if1 .taken))
-    (upper-copied (b .0) (t .if1 .taken) _ _ (b .0 .some) (bounds (b .0) .column) _ _ (b .1) (e .row-part .ensures .0) _ (c .before .before .copy .ensures))
+    let i = t .before .before in
+    let b = i .before .before .before .pre in
+    rw (inside-length (b .0) (omega arith) (t .before .if2 .taken) _ (b .2) (t .if3 .taken) _ (c .before .row-part .ensures .0)) (omega arith)
 
 returns-2 : tie.Need-returns-2
-unfolding aboveOf
-returns-2 c = rw (le-ltb _ _ (c .if1 .left)) (c .before .before .before .pre .1)
+returns-2 c =
+    let d = c .before .before in
+    let e = d .before .before in
+    let t = e .before in
+    let i = t .before .before in
+    let b = i .before .before .before .pre in
+    inside-is (b .0) (omega arith) (t .before .if2 .taken) _ (b .2) (t .if3 .taken) _ (e .row-part .ensures .0) _ _ (d .copy .ensures)
+
+border-row-requires : tie.Need-border-row-requires
+border-row-requires c κs =
+    let e = c .before in
+    let i = e .before .before in
+    let b = i .before .before .before .pre in
+    let u = bounds (b .0) in
+    rw (row-length (b .0) (omega arith) _ (e .row-part2 .ensures .0)) (omega arith, b .4)
+
+returns-3 : tie.Need-returns-3
+returns-3 c =
+    let d = c .before .before in
+    let e = d .before .before in
+    let i = e .before .before in
+    let b = i .before .before .before .pre in
+    border-is (b .0) (omega arith) _ (e .row-part2 .ensures .0) _ _ _ (d .border-row .ensures)
 
 pub row-above-spec : {M : Type 1} → statement M
 row-above-spec =
     tie.close
     (tie.spec
-    (λ c. let k = up c in omega arith)
-    (λ c. let k = up c in omega arith)
-    (λ c. let k = up c in omega arith)
-    (λ c. let k = up c in omega arith)
+    returns
+    (λ c. search needs)
+    (λ c. let k = bounds (c .before .before .before .pre .0) in omega arith)
+    (λ c. let k = side c in omega arith)
+    (λ c. let k = side c in omega arith)
+    (λ c. let k = up (c .before .before) in omega arith)
+    (λ c. let k = up (c .before .before) in omega arith)
+    (λ c. let k = side (c .before) in omega arith)
     (λ c κs. search needs)
     copy-requires
     (λ c. search needs)
-    returns
-    returns-2)
+    returns-2
+    (λ c. let k = up (c .before) in omega arith)
+    (λ c. let k = up (c .before) in omega arith)
+    (λ c κs. search needs)
+    border-row-requires
+    (λ c. search needs)
+    returns-3)

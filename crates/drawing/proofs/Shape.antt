@@ -14,12 +14,13 @@ use Rattle.macroblock.specs.declared.modes.IntraYMode.{IntraYMode}
 use Rattle.macroblock.specs.declared.modes.IntraUvMode.{IntraUvMode}
 use Rattle.macroblock.specs.declared.modes.IntraBmode.{IntraBmode}
 use Rattle.macroblock.specs.declared.modes.MbModes.{MbModes}
+use Rattle.macroblock.specs.declared.neighbors.ChromaEdges.{ChromaEdges}
 use Rattle.macroblock.specs.declared.neighbors.MbNeighbors.{MbNeighbors}
 use Rattle.record_bytes.specs.Bytes.{within, marksKnown, recordOf}
 use Rattle.rfc6386.specs.Edges.{isB}
-use Rattle.rfc6386.specs.Walk.{addedBlocks, plane, yPrediction, uPrediction, vPrediction, yWhole, yParts, uPlane, vPlane, lumaOf}
+use Rattle.rfc6386.specs.Walk.{addedBlocks, plane, yPrediction, uvPrediction, yWhole, yParts, uvPlane, lumaOf}
 use Rattle.rfc6386.proofs.Edges.{y-length, uv-length}
-use Rattle.clipping.proofs.Bounds.{y-whole-≤, u-≤, v-≤, y-parts-≤}
+use Rattle.clipping.proofs.Bounds.{y-whole-≤, uv-≤, y-parts-≤}
 use Rattle.reconstruct.specs.declared.ReconstructedMb.{ReconstructedMb}
 use Rattle.reconstruct.specs.Answers.{refusal, wholeOf, partsOf, nonB, walkB}
 use Rattle.drawing.specs.Drawn.{planesOf, modesKnown, modesOf, subModesOf, drawnB, drawnIn, drawnWith, drawn, drawnBytes}
@@ -43,19 +44,15 @@ plane-length n true p block e = e
 plane-length n false p block e = rows-length n n _
 
 module _ (skip : Bool) (n : MbNeighbors) (c : List ℤ) where
-  y-whole : (mode : IntraYMode) → length (yWhole mode skip n c) ≡ 256
+  y-whole : (mode : IntraYMode) → length (yWhole mode skip (n .y) c) ≡ 256
   unfolding yWhole yPrediction
-  y-whole mode = plane-length 16 skip (yPrediction mode n) _ (y-length _ _ _ _ mode _)
+  y-whole mode = plane-length 16 skip (yPrediction mode (n .y)) _ (y-length _ _ _ _ mode _)
 
-  u-plane : (mode : IntraUvMode) (base : ℕ) → length (uPlane mode skip n c base) ≡ 64
-  unfolding uPlane uPrediction
-  u-plane mode base = plane-length 8 skip (uPrediction mode n) _ (uv-length _ _ _ _ mode _)
+  uv-plane : (e : ChromaEdges) (mode : IntraUvMode) (base : ℕ) → length (uvPlane mode skip e c base) ≡ 64
+  unfolding uvPlane uvPrediction
+  uv-plane e mode base = plane-length 8 skip (uvPrediction mode e) _ (uv-length _ _ _ _ mode _)
 
-  v-plane : (mode : IntraUvMode) (base : ℕ) → length (vPlane mode skip n c base) ≡ 64
-  unfolding vPlane vPrediction
-  v-plane mode base = plane-length 8 skip (vPrediction mode n) _ (uv-length _ _ _ _ mode _)
-
-  y-parts : (modes : List IntraBmode) → length (yParts modes skip n c) ≡ 256
+  y-parts : (modes : List IntraBmode) → length (yParts modes skip (n .y) c) ≡ 256
   unfolding yParts lumaOf
   y-parts modes = rows-length 16 16 _
 
@@ -64,10 +61,10 @@ module _ (skip : Bool) (n : MbNeighbors) (c : List ℤ) where
   whole-shape y uv =
       record {
         luma = y-whole y;
-        first = u-plane uv 272;
-        second = v-plane uv 336;
+        first = uv-plane (n .u) uv 272;
+        second = uv-plane (n .v) uv 336;
         number = lit≤ tt;
-        counted = omega (arith, y-whole-≤ y skip n c, u-≤ uv skip n c 272, v-≤ uv skip n c 336);
+        counted = omega (arith, y-whole-≤ y skip (n .y) c, uv-≤ uv skip (n .u) c 272, uv-≤ uv skip (n .v) c 336);
       }
 
   parts-shape : (modes : List IntraBmode) (uv : IntraUvMode) → Shape (partsOf modes uv skip n c)
@@ -75,10 +72,10 @@ module _ (skip : Bool) (n : MbNeighbors) (c : List ℤ) where
   parts-shape modes uv =
       record {
         luma = y-parts modes;
-        first = u-plane uv 256;
-        second = v-plane uv 320;
+        first = uv-plane (n .u) uv 256;
+        second = uv-plane (n .v) uv 320;
         number = lit≤ tt;
-        counted = omega (arith, y-parts-≤ modes skip n c, u-≤ uv skip n c 256, v-≤ uv skip n c 320);
+        counted = omega (arith, y-parts-≤ modes skip (n .y) c, uv-≤ uv skip (n .u) c 256, uv-≤ uv skip (n .v) c 320);
       }
 
 -- ---- the answers

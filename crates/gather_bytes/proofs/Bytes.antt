@@ -3,20 +3,20 @@ use Prim.Native.Nat.{ℕ}
 use mathlib.Core.Path.{_≡_, refl}
 use mathlib.Core.List.{List}
 use lib.ListN.{length, replicate}
-use Rattle.lists.specs.Lists.{table}
+use Rattle.lists.specs.Lists.{table, part}
 use Rattle.macroblock.specs.declared.neighbors.MbNeighbors.{MbNeighbors}
-use Rattle.macroblock.specs.Neighbors.{absent}
+use Rattle.macroblock.specs.Neighbors.{noLuma, noChroma, absent}
 use Rattle.slices.specs.Copies.{_beside_}
 use Rattle.gathering.specs.declared.Gathered.{Gathered}
 use Rattle.gathering.specs.Answers.{gathered}
-use Rattle.record_bytes.specs.Bytes.{part, marksOf, lumaBytes, chromaBytes, bytesOf}
+use Rattle.record_bytes.specs.Bytes.{lumaMarks, chromaMarks, lumaBytes, chromaBytes, bytesOf}
 
 pub bytes-number : (n : MbNeighbors) → length (bytesOf n) ≡ 81
-unfolding table part marksOf lumaBytes chromaBytes bytesOf
+unfolding table part lumaMarks chromaMarks lumaBytes chromaBytes bytesOf
 bytes-number n = refl
 
 pub absent-zeros : bytesOf absent ≡ replicate 81 0
-unfolding table part marksOf lumaBytes chromaBytes bytesOf absent
+unfolding table part lumaMarks chromaMarks lumaBytes chromaBytes bytesOf noLuma noChroma absent
 absent-zeros = refl
 
 -- what the calls made, said of the pixels that the caller gave

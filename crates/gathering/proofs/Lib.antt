@@ -5,4 +5,7 @@
 --     Unread        where the given pixels change nothing
 --     OneAnswer     the promise admits one answer only
 pub mod Copied
+pub mod Pixels
+pub mod Gathers
+pub mod Unread
 pub mod OneAnswer

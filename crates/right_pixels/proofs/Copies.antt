@@ -6,22 +6,23 @@ use mathlib.Core.Path.{_≡_, ap, _∙_}
 use mathlib.Core.List.{List}
 use native.Mathlib.Omega.{arith}
 use lib.ListN.{length, getD, replicate}
-use lib.Seq.{getD-take, getD-drop}
-use borrow.Author.Tests.{lt-ltb, eq-eqb, ne-eqb}
+use borrow.Author.Tests.{lt-ltb, le-ltb, le-leb, eq-eqb, ne-eqb}
+use Rattle.lists.proofs.Table.{table-at}
 use Rattle.macroblock.specs.Reply.{done, wrongLength, outsidePicture}
-use Rattle.rfc6386.specs.Picture.{aboveOf}
+use Rattle.rfc6386.specs.Picture.{pixelOf, rowAbove}
 use Rattle.picture_limits.proofs.Accepted.{Within}
 use Rattle.right_pixels.specs.declared.RightPixels.{RightPixels}
 use Rattle.right_pixels.specs.Answers.{lastAbove, refused, rightPixels}
 use Rattle.right_pixels.proofs.Accepted.{row-true, row-false, row-placed, ends}
 
 -- the last pixel of the row above is the last of the sixteen above the last macroblock
-pub last-of-sixteen : (y : List ℕ) (w r : ℕ) → 1 ≤ w → 1 ≤ r → getD (aboveOf 16 y w r (w - 1)) 15 0 ≡ lastAbove y w r
-unfolding aboveOf lastAbove
-last-of-sixteen y w r a b =
-    let k : 15 < 16 = omega arith in
-    rw (lt-ltb 0 r b, getD-take, getD-drop)
-    (ap (λ (i : ℕ). getD y i 0) (omega arith))
+pub last-of-sixteen : (y : List ℕ) (w r : ℕ) (right : List ℕ) → 1 ≤ w → 1 ≤ r → getD (rowAbove 16 21 y w r (w - 1) right) 16 0 ≡ lastAbove y w r
+unfolding rowAbove pixelOf lastAbove
+last-of-sixteen y w r right a b =
+    rw (lt-ltb 0 r b)
+    (table-at 21 _ 16 0 (omega arith)
+    ∙ rw (le-ltb (16 * (w - 1) + 16) 1 (omega arith), le-leb (16 * (w - 1) + 16) (16 * w) (omega arith))
+    (ap (λ (i : ℕ). getD y i 0) (omega arith)))
 
 module _ (y : List ℕ) (w h r : ℕ) (p : RightPixels) (e : p ≡ rightPixels y w h r) where
   pub row-refused : (1 ≤ r → Within w h 0 r → ⊥) → p ≡ refused outsidePicture
@@ -33,9 +34,10 @@ module _ (y : List ℕ) (w h r : ℕ) (p : RightPixels) (e : p ≡ rightPixels y
     unfolding rightPixels
     length-refused k = e ∙ rw (row-true w h r a b, ne-eqb _ _ k)
 
-    pub copies : length y ≡ 256 * (w * h) → p ≡ record { reply = done; pixels = replicate 4 (getD (aboveOf 16 y w r (w - 1)) 15 0) }
+    pub copies : (right : List ℕ) → length y ≡ 256 * (w * h)
+        → p ≡ record { reply = done; pixels = replicate 4 (getD (rowAbove 16 21 y w r (w - 1) right) 16 0) }
     unfolding rightPixels
-    copies q = e ∙ rw (row-true w h r a b, eq-eqb _ _ q, last-of-sixteen y w r (b .column) a)
+    copies right q = e ∙ rw (row-true w h r a b, eq-eqb _ _ q, last-of-sixteen y w r right (b .column) a)
 
     -- that pixel lies in the plane
     pub inside : length y ≡ 256 * (w * h) → (16 * r - 1) * (16 * w) + (16 * w - 1) < length y

@@ -10,6 +10,7 @@ use lib.IntN.{ℤ}
 use lib.ListN.{length, getD, take}
 use Rattle.lists.specs.Lists.{table, pick, both}
 use Rattle.slices.specs.Copies.{itemOf, _beside_}
+use Rattle.macroblock.specs.Neighbors.{absent}
 use Rattle.macroblock.specs.Reply.{done, wrongLength}
 use Rattle.macroblock.specs.declared.modes.IntraYMode.the-variants as y
 use Rattle.macroblock.specs.declared.modes.IntraUvMode.the-variants as uv
@@ -35,33 +36,7 @@ lengthsFit n subs coeffs out replies clipped =
 -- ---- from jobs
 -- what `getD` gives past the end: no caller sees it
 abbrev pub noJob : Job
-noJob =
-    record {
-      modes = record { y = y.Dc; uv = uv.Dc; skip = false };
-      neighbors =
-          record {
-            «y_topleft» = 0;
-            «y_topleft_there» = false;
-            «y_above» = [];
-            «y_above_there» = false;
-            «y_above_right» = [];
-            «y_above_right_there» = false;
-            «y_left» = [];
-            «y_left_there» = false;
-            «u_topleft» = 0;
-            «u_topleft_there» = false;
-            «u_above» = [];
-            «u_above_there» = false;
-            «u_left» = [];
-            «u_left_there» = false;
-            «v_topleft» = 0;
-            «v_topleft_there» = false;
-            «v_above» = [];
-            «v_above_there» = false;
-            «v_left» = [];
-            «v_left_there» = false;
-          };
-    }
+noJob = record { modes = record { y = y.Dc; uv = uv.Dc; skip = false }; neighbors = absent }
 
 unfoldable pub jobDrawn : Job → List ℕ → List ℤ → ℕ → ReconstructedMb
 jobDrawn job subs coeffs k =

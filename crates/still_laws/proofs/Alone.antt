@@ -4,7 +4,7 @@
 use Prim.Native.Nat.{ℕ, zero, suc, _+_, _-_, _*_, _/_, _%_, _<_, _≤_}
 use mathlib.Core.Bool.{Bool, true, false}
 use mathlib.Core.Path.{_≡_, refl, sym, ap, _∙_}
-use mathlib.Core.List.{List}
+use mathlib.Core.List.{List, []}
 use mathlib.Core.Logic.{⊎-elim}
 use native.Mathlib.Nat.{eq-zero-or-pos, le-of-lt}
 use native.Mathlib.Omega.{arith}
@@ -43,8 +43,8 @@ pub read-later : (w h : ℕ) (y : List ℕ) (r : ℕ) → 1 ≤ r → Within w h
     → rightRead w h r y ≡ replicate 4 (lastAbove y w r)
 unfolding rightRead
 read-later w h y r l p e =
-    ap (λ (q : RightPixels). q .pixels) (copies y w h r (rightPixels y w h r) refl l p e)
-    ∙ ap (λ (x : ℕ). replicate 4 x) (last-of-sixteen y w r (p .column) l)
+    ap (λ (q : RightPixels). q .pixels) (copies y w h r (rightPixels y w h r) refl l p [] e)
+    ∙ ap (λ (x : ℕ). replicate 4 x) (last-of-sixteen y w r [] (p .column) l)
 
 pub rights-length : (w h : ℕ) (y : List ℕ) → length (rightsOf w h y) ≡ 4 * (h - 1)
 unfolding rightsOf

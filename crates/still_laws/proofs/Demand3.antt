@@ -16,7 +16,7 @@ use lib.ListN.{getD, drop}
 use Rattle.macroblock.specs.Reply.{done}
 use Rattle.macroblock.specs.declared.modes.IntraBmode.{IntraBmode}
 use Rattle.macroblock.specs.declared.neighbors.MbNeighbors.{MbNeighbors}
-use Rattle.rfc6386.specs.Walk.{blockAt, seeded, yPrediction, uPrediction, vPrediction, startOf, subPrediction, walked}
+use Rattle.rfc6386.specs.Walk.{blockAt, seeded, yPrediction, uvPrediction, startOf, subPrediction, walked}
 use Rattle.reconstruct.specs.declared.ReconstructedMb.{ReconstructedMb}
 use Rattle.reconstruct.specs.Answers.{nonB, walkB}
 use Rattle.reconstruct.proofs.Demand3.{Blocks8191, Near, nonB-y, nonB-u, nonB-v, walkB-y, walkB-u, walkB-v}
@@ -58,7 +58,7 @@ module _ (w h : ℕ) (modes subs : List ℕ) (coeffs : List ℤ) (y u v : List �
 
     pub whole-y : Blocks8191 16 (seeded (coeffsAt coeffs k)) → (i j : ℕ) → i < 16 → j < 16
         → Near (d .y) (pixelOf inY w k i j) (seeded (coeffsAt coeffs k) (4 * (i / 4) + j / 4)) (i % 4) (j % 4)
-        (getD (yPrediction (modesAt modes k .y) around) (i * 16 + j) 0)
+        (getD (yPrediction (modesAt modes k .y) (around .y)) (i * 16 + j) 0)
     whole-y s i j hi hj =
         carried (d .y) (result .y) (pixelOf inY w k i j) (i * 16 + j) _ _ _ _
         (finished-pixels w h modes subs coeffs y u v right a k f inY i j hi hj ∙ ap (λ (t : ℕ). getD (result .y) t 0) (omega arith))
@@ -66,7 +66,7 @@ module _ (w h : ℕ) (modes subs : List ℕ) (coeffs : List ℤ) (y u v : List �
 
     pub whole-u : Blocks8191 4 (blockAt (coeffsAt coeffs k) 272) → (i j : ℕ) → i < 8 → j < 8
         → Near (d .u) (pixelOf inU w k i j) (blockAt (coeffsAt coeffs k) 272 (2 * (i / 4) + j / 4)) (i % 4) (j % 4)
-        (getD (uPrediction (modesAt modes k .uv) around) (i * 8 + j) 0)
+        (getD (uvPrediction (modesAt modes k .uv) (around .u)) (i * 8 + j) 0)
     whole-u s i j hi hj =
         carried (d .u) (result .u) (pixelOf inU w k i j) (i * 8 + j) _ _ _ _
         (finished-pixels w h modes subs coeffs y u v right a k f inU i j hi hj ∙ ap (λ (t : ℕ). getD (result .u) t 0) (omega arith))
@@ -74,7 +74,7 @@ module _ (w h : ℕ) (modes subs : List ℕ) (coeffs : List ℤ) (y u v : List �
 
     pub whole-v : Blocks8191 4 (blockAt (coeffsAt coeffs k) 336) → (i j : ℕ) → i < 8 → j < 8
         → Near (d .v) (pixelOf inV w k i j) (blockAt (coeffsAt coeffs k) 336 (2 * (i / 4) + j / 4)) (i % 4) (j % 4)
-        (getD (vPrediction (modesAt modes k .uv) around) (i * 8 + j) 0)
+        (getD (uvPrediction (modesAt modes k .uv) (around .v)) (i * 8 + j) 0)
     whole-v s i j hi hj =
         carried (d .v) (result .v) (pixelOf inV w k i j) (i * 8 + j) _ _ _ _
         (finished-pixels w h modes subs coeffs y u v right a k f inV i j hi hj ∙ ap (λ (t : ℕ). getD (result .v) t 0) (omega arith))
@@ -95,7 +95,7 @@ module _ (w h : ℕ) (modes subs : List ℕ) (coeffs : List ℤ) (y u v : List �
     -- row i and column j of sub-block s
     pub parts-y : Blocks8191 16 (blockAt rest 0) → (s i j : ℕ) → s < 16 → i < 4 → j < 4
         → Near (d .y) (pixelOf inY w k (4 * (s / 4) + i) (4 * (s % 4) + j)) (blockAt rest 0 s) i j
-        (getD (subPrediction kinds s (walked s kinds false rest (startOf around))) (4 * i + j) 0)
+        (getD (subPrediction kinds s (walked s kinds false rest (startOf (around .y)))) (4 * i + j) 0)
     parts-y z s i j hs hi hj =
         carried (d .y) (result .y) (pixelOf inY w k (4 * (s / 4) + i) (4 * (s % 4) + j)) ((4 * (s / 4) + i) * 16 + (4 * (s % 4) + j)) _ _ _ _
         (finished-pixels w h modes subs coeffs y u v right a k f inY (4 * (s / 4) + i) (4 * (s % 4) + j) (omega arith) (omega arith)
@@ -104,7 +104,7 @@ module _ (w h : ℕ) (modes subs : List ℕ) (coeffs : List ℤ) (y u v : List �
 
     pub parts-u : Blocks8191 4 (blockAt rest 256) → (i j : ℕ) → i < 8 → j < 8
         → Near (d .u) (pixelOf inU w k i j) (blockAt rest 256 (2 * (i / 4) + j / 4)) (i % 4) (j % 4)
-        (getD (uPrediction (modesAt modes k .uv) around) (i * 8 + j) 0)
+        (getD (uvPrediction (modesAt modes k .uv) (around .u)) (i * 8 + j) 0)
     parts-u s i j hi hj =
         carried (d .u) (result .u) (pixelOf inU w k i j) (i * 8 + j) _ _ _ _
         (finished-pixels w h modes subs coeffs y u v right a k f inU i j hi hj ∙ ap (λ (t : ℕ). getD (result .u) t 0) (omega arith))
@@ -112,7 +112,7 @@ module _ (w h : ℕ) (modes subs : List ℕ) (coeffs : List ℤ) (y u v : List �
 
     pub parts-v : Blocks8191 4 (blockAt rest 320) → (i j : ℕ) → i < 8 → j < 8
         → Near (d .v) (pixelOf inV w k i j) (blockAt rest 320 (2 * (i / 4) + j / 4)) (i % 4) (j % 4)
-        (getD (vPrediction (modesAt modes k .uv) around) (i * 8 + j) 0)
+        (getD (uvPrediction (modesAt modes k .uv) (around .v)) (i * 8 + j) 0)
     parts-v s i j hi hj =
         carried (d .v) (result .v) (pixelOf inV w k i j) (i * 8 + j) _ _ _ _
         (finished-pixels w h modes subs coeffs y u v right a k f inV i j hi hj ∙ ap (λ (t : ℕ). getD (result .v) t 0) (omega arith))

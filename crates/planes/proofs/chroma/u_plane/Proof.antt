@@ -3,7 +3,7 @@ use mathlib.Core.Path.{refl}
 use borrow.Author.Needs.{needs}
 use Rattle.rfc6386.specs.Walk.{uPlane, uPrediction}
 use Rattle.clipping.specs.Clipped.{uClipped}
-use Rattle.planes.specs.Drawn.{chromaOf, uDrawn}
+use Rattle.planes.specs.Planes.{chromaOf, uDrawn}
 use Rattle.planes.proofs.chroma.u_plane.Statement.{statement}
 use Rattle.planes.proofs.chroma.u_plane.Tie as tie
 

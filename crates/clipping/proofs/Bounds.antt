@@ -16,8 +16,9 @@ use Rattle.macroblock.specs.declared.neighbors.ChromaEdges.{ChromaEdges}
 use Rattle.macroblock.specs.declared.neighbors.MbNeighbors.{MbNeighbors}
 use Rattle.rfc6386.specs.Dct.{residue}
 use Rattle.rfc6386.specs.Walk.{blockAt, seeded, yPrediction, uvPrediction, startOf, subPrediction, walked}
-use Rattle.clipping.specs.Clipped.{total, over, blockClipped, clippedAt, blocksClipped, planeClipped, yWholeClipped, uvClipped, subClipped, walkedClipped, yPartsClipped}
-use Rattle.clipping.proofs.Total.{total-≤}
+use Rattle.clipping.specs.Clipped.{over, blockClipped, clippedAt, blocksClipped, planeClipped, yWholeClipped, uvClipped, subClipped, walkedClipped, yPartsClipped}
+use Rattle.lists.specs.Lists.{total}
+use Rattle.lists.proofs.Total.{total-≤}
 use Rattle.clipping.proofs.Counted.{over-≤}
 use Rattle.clipping.proofs.Skipped.{plane-skipped}
 

@@ -5,15 +5,16 @@ use Prim.Native.Nat.{ℕ, zero, suc, _+_, _-_, _*_, _<_, _≤_}
 use mathlib.Core.Bool.{Bool, true, false}
 use mathlib.Core.Path.{_≡_, refl, sym, ap, _∙_}
 use mathlib.Core.List.{List}
-use native.Mathlib.Nat.{le-of-eq}
 use native.Mathlib.Omega.{arith}
 use borrow.Author.Tests.{lt-ltb, le-ltb, le-leb, lt-leb}
 use lib.Dec.{ltb, leb, leb→le}
-use lib.ListN.{length, getD, take, replicate, length-replicate}
-use lib.Seq.{getD-take, ext-getD, length-take-le}
+use lib.ListN.{length, getD, replicate, length-replicate}
+use lib.Seq.{ext-getD}
 use Rattle.lists.specs.Lists.{table, pick}
 use Rattle.lists.proofs.Table.{table-length, table-at, table-ext}
 use Rattle.lists.proofs.Tests.{true-T}
+use Rattle.slices.specs.Copies.{copied}
+use Rattle.slices.proofs.Copied.{copied-fit}
 use Rattle.rfc6386.specs.Picture.{rowPart, pixelOf, rowAbove}
 use Rattle.row_part.proofs.Given.{part-length, part-at}
 use Rattle.picture_limits.specs.Place.{Placed}
@@ -39,9 +40,9 @@ same-pixel : (l : List ℕ) (s t : ℕ) (right others : List ℕ) (x : ℕ) → 
 unfolding pixelOf
 same-pixel l s t right others x h = rw (le-leb x s h)
 
-pub row-unread : (n m w r c : ℕ) (l right others : List ℕ) → n * c + m ≤ n * w + 1 → rowAbove n m l w r c right ≡ rowAbove n m l w r c others
+pub row-unread : (n m w c r : ℕ) (l right others : List ℕ) → n * c + m ≤ n * w + 1 → rowAbove n m l w c r right ≡ rowAbove n m l w c r others
 unfolding rowAbove
-row-unread n m w r c l right others h =
+row-unread n m w c r l right others h =
     ap (λ (row : List ℕ). pick (ltb 0 r) row (replicate m 0))
     (table-ext m _ _ (λ i k. same-pixel l (n * w) (n * r - 1) right others (n * c + i) (omega arith)))
 
@@ -62,7 +63,7 @@ module _ (l : List ℕ) (s t : ℕ) (right row : List ℕ) (size : length row �
 whole-row : (s : ℕ) → 0 + s ≤ s
 whole-row s = omega arith
 
-module _ {n : ℕ} {l : List ℕ} {w r c : ℕ} (p : Placed n l w r c) where
+module _ {n : ℕ} {l : List ℕ} {w c r : ℕ} (p : Placed n l w c r) where
   -- the picture's row above the macroblock, all of it
   module _ (h : 0 < r) (row : List ℕ) (e : row ≡ rowPart l (n * w) (n * r - 1) 0 (n * w)) where
     some : 1 ≤ n * w
@@ -79,7 +80,7 @@ module _ {n : ℕ} {l : List ℕ} {w r c : ℕ} (p : Placed n l w r c) where
         let q : (n * r - 1) * (n * w) + 0 + i ≡ (n * r - 1) * (n * w) + i = omega arith in
         rw (e, ← q) (part-at l (n * w) (n * r - 1) 0 (n * w) some (whole-row (n * w)) room i k)
 
-    pub border-is : (m : ℕ) (right ys : List ℕ) → ys ≡ table m (λ i. pixelIn row right (n * c + i)) → ys ≡ rowAbove n m l w r c right
+    pub border-is : (m : ℕ) (right ys : List ℕ) → ys ≡ table m (λ i. pixelIn row right (n * c + i)) → ys ≡ rowAbove n m l w c r right
     unfolding rowAbove
     border-is m right ys f =
         f ∙ rw (lt-ltb 0 r h) (table-ext m _ _ (λ i _. pixel-read l (n * w) (n * r - 1) right row row-length row-at (n * c + i)))
@@ -89,21 +90,20 @@ module _ {n : ℕ} {l : List ℕ} {w r c : ℕ} (p : Placed n l w r c) where
     within : (n * r - 1) * (n * w) + (n * c - 1) + m ≤ length l
     within = let a = above p h in omega arith
 
-    pub inside-length : length part ≡ m
+    inside-length : length part ≡ m
     inside-length = rw (e, part-length l (n * w) (n * r - 1) (n * c - 1) m one t within) refl
 
-    pub inside-is : (right ys : List ℕ) → ys ≡ take m part → ys ≡ rowAbove n m l w r c right
+    pub inside-is : (right xs ys : List ℕ) → length xs ≡ m → ys ≡ copied part xs → ys ≡ rowAbove n m l w c r right
     unfolding rowAbove
-    inside-is right ys f =
+    inside-is right xs ys size f =
         let side = left p g .side in
-        let size : length (take m part) ≡ m = length-take-le m part (le-of-eq (sym inside-length)) in
-        f
+        f ∙ copied-fit part xs (size ∙ sym inside-length)
         ∙ rw (lt-ltb 0 r h)
-        (ext-getD 0 (take m part) _ (size ∙ sym (table-length m _))
+        (ext-getD 0 part _ (inside-length ∙ sym (table-length m _))
         (λ i k.
-        let b : i < m = rw size at k in
+        let b : i < m = rw inside-length at k in
         let q : (n * r - 1) * (n * w) + (n * c - 1) + i ≡ (n * r - 1) * (n * w) + (n * c + i - 1) = omega arith in
-        getD-take m part i 0 b ∙ rw e (part-at l (n * w) (n * r - 1) (n * c - 1) m one t within i b) ∙ ap (λ (j : ℕ). getD l j 0) q
+        rw e (part-at l (n * w) (n * r - 1) (n * c - 1) m one t within i b) ∙ ap (λ (j : ℕ). getD l j 0) q
         ∙ sym (table-at m _ i 0 b ∙ pixel-own l (n * w) (n * r - 1) right (n * c + i) (omega arith) (omega arith))))
 
   -- the column of pixels before the macroblock, drawn into n zero bytes

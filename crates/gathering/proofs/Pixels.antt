@@ -43,17 +43,17 @@ pub record Around (n : ℕ) (l : List ℕ) (w r c p : ℕ) (above left : List �
   pub top-left-beside : 0 < r → 0 < c → (p-mark ≡ true) × (p ≡ getD l ((n * r - 1) * (n * w) + (n * c - 1)) 0)
 
 -- ---- the row above, pixel by pixel
-module _ (n m : ℕ) (l : List ℕ) (w r c : ℕ) (right : List ℕ) where
-  pub row-pixel : 0 < r → (i : ℕ) → i < m → getD (rowAbove n m l w r c right) i 0 ≡ pixelOf l (n * w) (n * r - 1) right (n * c + i)
+module _ (n m : ℕ) (l : List ℕ) (w c r : ℕ) (right : List ℕ) where
+  pub row-pixel : 0 < r → (i : ℕ) → i < m → getD (rowAbove n m l w c r right) i 0 ≡ pixelOf l (n * w) (n * r - 1) right (n * c + i)
   unfolding rowAbove
   row-pixel h i k = rw (lt-ltb 0 r h) (table-at m _ i 0 k)
 
-  row-zeros : r ≡ 0 → rowAbove n m l w r c right ≡ replicate m 0
+  row-zeros : r ≡ 0 → rowAbove n m l w c r right ≡ replicate m 0
   unfolding rowAbove
   row-zeros z = rw (le-ltb 0 r (omega arith))
 
   -- k pixels from `at` on
-  pub part-absent : r ≡ 0 → (k at : ℕ) → at + k ≤ m → Absent k (aboveThere r c) (part k (rowAbove n m l w r c right) at)
+  pub part-absent : r ≡ 0 → (k at : ℕ) → at + k ≤ m → Absent k (aboveThere c r) (part k (rowAbove n m l w c r right) at)
   unfolding part
   part-absent z k at h =
       record {
@@ -64,7 +64,7 @@ module _ (n m : ℕ) (l : List ℕ) (w r c : ℕ) (right : List ℕ) where
   -- `from`: where the first of them stands in the plane
   pub part-there : 0 < r → (k at from : ℕ) → at + k ≤ m → from ≡ (n * r - 1) * (n * w) + (n * c + at - 1) → 1 ≤ n * c + at
       → n * c + at + k ≤ n * w + 1 → (n * r - 1) * (n * w) + n * w ≤ length l
-      → There l k (λ i. from + i) (aboveThere r c) (part k (rowAbove n m l w r c right) at)
+      → There l k (λ i. from + i) (aboveThere c r) (part k (rowAbove n m l w c r right) at)
   unfolding part
   part-there h k at from a e one b room =
       record {
@@ -79,8 +79,8 @@ module _ (n m : ℕ) (l : List ℕ) (w r c : ℕ) (right : List ℕ) where
           ∙ ap (λ (j : ℕ). getD l j 0) q;
       }
 
-module _ {n : ℕ} {l : List ℕ} {w r c : ℕ} (p : Placed n l w r c) where
-  left-column : 0 < c → There l n (λ i. (n * r + i) * (n * w) + (n * c - 1)) (leftThere r c) (leftOf n l w r c)
+module _ {n : ℕ} {l : List ℕ} {w c r : ℕ} (p : Placed n l w c r) where
+  left-column : 0 < c → There l n (λ i. (n * r + i) * (n * w) + (n * c - 1)) (leftThere c r) (leftOf n l w c r)
   unfolding leftOf
   left-column h =
       let f = lt-ltb 0 c h in
@@ -94,57 +94,57 @@ module _ {n : ℕ} {l : List ℕ} {w r c : ℕ} (p : Placed n l w r c) where
 
   -- the three edges that each plane has, in a row of m pixels
   pub around : (m : ℕ) (right : List ℕ) → 1 + n ≤ m
-      → (let row = rowAbove n m l w r c right in
-      Around n l w r c (getD row 0 0) (part n row 1) (leftOf n l w r c) (aboveThere r c) (aboveThere r c) (leftThere r c))
+      → (let row = rowAbove n m l w c r right in
+      Around n l w c r (getD row 0 0) (part n row 1) (leftOf n l w c r) (aboveThere c r) (aboveThere c r) (leftThere c r))
   unfolding leftOf
   around m right e =
       record {
-        above-outside = λ z. part-absent n m l w r c right z n 1 e;
+        above-outside = λ z. part-absent n m l w c r right z n 1 e;
         above-beside =
           λ h.
           let a = above p h in
-          part-there n m l w r c right h n 1 ((n * r - 1) * (n * w) + n * c) e (omega arith) (omega arith) (omega arith) (omega arith);
+          part-there n m l w c r right h n 1 ((n * r - 1) * (n * w) + n * c) e (omega arith) (omega arith) (omega arith) (omega arith);
         left-outside = λ z. let f = le-ltb 0 c (omega arith) in record { off = f; zeros = rw f };
         left-beside = left-column;
-        top-left-outside = λ z. (le-ltb 0 r (omega arith), rw (row-zeros n m l w r c right z) (getD-replicate m 0 0 0 (omega arith)));
+        top-left-outside = λ z. (le-ltb 0 r (omega arith), rw (row-zeros n m l w c r right z) (getD-replicate m 0 0 0 (omega arith)));
         top-left-margin =
           λ h z.
           let q : n * c + 0 ≡ 0 = rw z (omega arith) in
-          (lt-ltb 0 r h, row-pixel n m l w r c right h 0 (omega arith) ∙ pixel-margin l (n * w) (n * r - 1) right (n * c + 0) q);
+          (lt-ltb 0 r h, row-pixel n m l w c r right h 0 (omega arith) ∙ pixel-margin l (n * w) (n * r - 1) right (n * c + 0) q);
         top-left-beside =
           λ h g.
           let a = above p h in
           let b = left p g in
           let q : n * c + 0 - 1 ≡ n * c - 1 = omega arith in
           (lt-ltb 0 r h,
-          row-pixel n m l w r c right h 0 (omega arith) ∙ pixel-own l (n * w) (n * r - 1) right (n * c + 0) (omega arith) (omega arith)
+          row-pixel n m l w c r right h 0 (omega arith) ∙ pixel-own l (n * w) (n * r - 1) right (n * c + 0) (omega arith) (omega arith)
           ∙ ap (λ (j : ℕ). getD l ((n * r - 1) * (n * w) + j) 0) q);
       }
 
 -- ---- the last four of a luma row
-module _ (l : List ℕ) (w r c : ℕ) (right : List ℕ) where
-  pub right-outside : r ≡ 0 → Absent 4 (aboveThere r c) (part 4 (rowAbove 16 21 l w r c right) 17)
-  right-outside z = part-absent 16 21 l w r c right z 4 17 (omega arith)
+module _ (l : List ℕ) (w c r : ℕ) (right : List ℕ) where
+  pub right-outside : r ≡ 0 → Absent 4 (aboveThere c r) (part 4 (rowAbove 16 21 l w c r right) 17)
+  right-outside z = part-absent 16 21 l w c r right z 4 17 (omega arith)
 
-  pub right-given : 0 < r → c + 1 ≡ w → length right ≡ 4 → (aboveThere r c ≡ true) × (part 4 (rowAbove 16 21 l w r c right) 17 ≡ right)
+  pub right-given : 0 < r → c + 1 ≡ w → length right ≡ 4 → (aboveThere c r ≡ true) × (part 4 (rowAbove 16 21 l w c r right) 17 ≡ right)
   unfolding part
   right-given h z e = (
     lt-ltb 0 r h,
     ext-getD 0 (table 4 _) right (table-length 4 _ ∙ sym e)
     (λ i k.
-    let b : i < 4 = rw (table-length 4 (λ j. getD (rowAbove 16 21 l w r c right) (17 + j) 0)) at k in
+    let b : i < 4 = rw (table-length 4 (λ j. getD (rowAbove 16 21 l w c r right) (17 + j) 0)) at k in
     let q : 16 * c + (17 + i) - 16 * w - 1 ≡ i = omega arith in
-    table-at 4 _ i 0 b ∙ row-pixel 16 21 l w r c right h (17 + i) (omega arith)
+    table-at 4 _ i 0 b ∙ row-pixel 16 21 l w c r right h (17 + i) (omega arith)
     ∙ pixel-right l (16 * w) (16 * r - 1) right (16 * c + (17 + i)) (omega arith) ∙ ap (λ (j : ℕ). getD right j 0) q),
   )
 
-  pub right-beside : Placed 16 l w r c → 0 < r → c + 1 < w
-      → There l 4 (λ i. (16 * r - 1) * (16 * w) + (16 * c + 16) + i) (aboveThere r c) (part 4 (rowAbove 16 21 l w r c right) 17)
+  pub right-beside : Placed 16 l w c r → 0 < r → c + 1 < w
+      → There l 4 (λ i. (16 * r - 1) * (16 * w) + (16 * c + 16) + i) (aboveThere c r) (part 4 (rowAbove 16 21 l w c r right) 17)
   right-beside p h g =
       let a = above p h in
-      part-there 16 21 l w r c right h 4 17 ((16 * r - 1) * (16 * w) + (16 * c + 16)) (omega arith) (omega arith) (omega arith) (omega arith) (omega arith)
+      part-there 16 21 l w c r right h 4 17 ((16 * r - 1) * (16 * w) + (16 * c + 16)) (omega arith) (omega arith) (omega arith) (omega arith) (omega arith)
 
   -- elsewhere than in the last column below the first row the given pixels are not read
-  pub right-unread : (s : List ℕ) → (r ≡ 0) ⊎ (c + 1 < w) → rowAbove 16 21 l w r c right ≡ rowAbove 16 21 l w r c s
+  pub right-unread : (s : List ℕ) → (r ≡ 0) ⊎ (c + 1 < w) → rowAbove 16 21 l w c r right ≡ rowAbove 16 21 l w c r s
   right-unread s =
-      ⊎-elim (λ z. row-zeros 16 21 l w r c right z ∙ sym (row-zeros 16 21 l w r c s z)) (λ z. row-unread 16 21 w r c l right s (omega arith))
+      ⊎-elim (λ z. row-zeros 16 21 l w c r right z ∙ sym (row-zeros 16 21 l w c r s z)) (λ z. row-unread 16 21 w c r l right s (omega arith))

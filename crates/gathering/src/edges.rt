@@ -1,9 +1,8 @@
-// The edges of a macroblock that lies in its plane, over the side n: 16 pixels in Y, 8 in U and V. The macroblock stands in
-// column c and row r of a picture w macroblocks wide, so that a row of the plane has n w pixels. Each edge is written over
-// zero bytes, which stay where it is absent.
+// The edges of a macroblock that lies in its plane, over the side n: 16 pixels in Y, 8 in U and V. A row of the plane has
+// n cols pixels. Each edge is written over zero bytes, which stay where it is absent.
 ghost use mathlib.Core.Path.{_≡_};
 ghost use Prim.Native.Nat.{_+_, _*_, _-_, _≤_, _<_};
-ghost use lib.ListN.{length, take, getD, replicate};
+ghost use lib.ListN.{length, getD, replicate};
 ghost use Rattle.lists.specs.Lists.{table};
 ghost use Rattle.rfc6386.specs.Picture.{pixelOf, rowAbove, leftOf};
 ghost use Rattle.picture_limits.specs.Place.{Placed};
@@ -35,59 +34,50 @@ fn border_row(dst: &mut [u8], row: &[u8], right: &[u8; 4], x: usize)
     }
 }
 
-// The row above: row n r - 1 from the pixel before column n c on. Inside the picture it is one part of the plane.
+// The row above: row n row - 1 from the pixel before column n col on. Inside the picture it is one part of the plane.
 pub(crate) fn row_above(
     dst: &mut [u8],
     plane: &[u8],
     n: usize,
-    w: usize,
-    r: usize,
-    c: usize,
+    cols: usize,
+    col: usize,
+    row: usize,
     right: &[u8; 4],
 )
-    requires { ⌜ Placed n (now plane) w r c × (now dst ≡ replicate (length (now dst)) 0) × (1 ≤ length (now dst)) × (length (now dst) ≤ n + 5) × (n * w ≤ 1048576) ⌝ }
-    ensures { λ _. ⌜ now (dst .exit) ≡ rowAbove n (length (now (dst .entry))) (now (plane .entry)) w r c (now (right .entry)) ⌝ }
+    requires { ⌜ Placed n (now plane) cols col row × (now dst ≡ replicate (length (now dst)) 0) × (1 ≤ length (now dst)) × (length (now dst) ≤ n + 5) × (n * cols ≤ 1048576) ⌝ }
+    ensures { λ _. ⌜ now (dst .exit) ≡ rowAbove n (length (now (dst .entry))) (now (plane .entry)) cols col row (now (right .entry)) ⌝ }
 {
-    if r == 0 {
+    if row == 0 {
         return;
     }
-    let stride = n * w;
-    let x = n * c;
-    if 0 < c {
+    let stride = n * cols;
+    let x = n * col;
+    if 0 < col {
         if x - 1 + dst.len() <= stride {
-            let part = row_part(plane, stride, n * r - 1, x - 1, dst.len());
-            copy(dst, part);
+            let part = row_part(plane, stride, n * row - 1, x - 1, dst.len());
+            slices::copy(dst, part);
             return;
         }
     }
-    let row = row_part(plane, stride, n * r - 1, 0, stride);
-    border_row(dst, row, right, x);
+    let pixels = row_part(plane, stride, n * row - 1, 0, stride);
+    border_row(dst, pixels, right, x);
 }
 
-// Column n c - 1, from row n r on.
+// Column n col - 1, from row n row on.
 pub(crate) fn left_column(
     dst: &mut [u8],
     plane: &[u8],
     n: usize,
-    w: usize,
-    r: usize,
-    c: usize,
+    cols: usize,
+    col: usize,
+    row: usize,
 )
-    requires { ⌜ Placed n (now plane) w r c × (now dst ≡ replicate n 0) ⌝ }
-    ensures { λ _. ⌜ now (dst .exit) ≡ leftOf n (now (plane .entry)) w r c ⌝ }
+    requires { ⌜ Placed n (now plane) cols col row × (now dst ≡ replicate n 0) ⌝ }
+    ensures { λ _. ⌜ now (dst .exit) ≡ leftOf n (now (plane .entry)) cols col row ⌝ }
 {
-    if 0 < c {
-        let stride = n * w;
-        column(dst, plane, n * r * stride + (n * c - 1), stride);
-    }
-}
-
-fn copy(dst: &mut [u8], src: &[u8])
-    requires { ⌜ length (now dst) ≤ length (now src) ⌝ }
-    ensures { λ _. ⌜ now (dst .exit) ≡ take (length (now (dst .entry))) (now (src .entry)) ⌝ }
-{
-    for i in 0..dst.len() {
-        dst[i] = src[i];
+    if 0 < col {
+        let stride = n * cols;
+        column(dst, plane, n * row * stride + (n * col - 1), stride);
     }
 }
 

@@ -14,17 +14,17 @@ pub(crate) fn beside(
     y: &[u8],
     u: &[u8],
     v: &[u8],
-    w: usize,
-    r: usize,
-    c: usize,
+    cols: usize,
+    col: usize,
+    row: usize,
     right: [u8; 4],
 ) -> MbNeighbors
-    requires { ⌜ Placed 16 (now y) w r c × Placed 8 (now u) w r c × Placed 8 (now v) w r c × (w ≤ 1024) ⌝ }
-    ensures { λ n. ⌜ n ≡ neighborsOf (now (y .entry)) (now (u .entry)) (now (v .entry)) w r c right ⌝ }
+    requires { ⌜ Placed 16 (now y) cols col row × Placed 8 (now u) cols col row × Placed 8 (now v) cols col row × (cols ≤ 1024) ⌝ }
+    ensures { λ n. ⌜ n ≡ neighborsOf (now (y .entry)) (now (u .entry)) (now (v .entry)) cols col row right ⌝ }
 {
-    let ey = luma_edges(y, w, r, c, right);
-    let eu = chroma_edges(u, w, r, c);
-    let ev = chroma_edges(v, w, r, c);
+    let ey = luma_edges(y, cols, col, row, right);
+    let eu = chroma_edges(u, cols, col, row);
+    let ev = chroma_edges(v, cols, col, row);
     MbNeighbors {
         y: ey,
         u: eu,
@@ -32,41 +32,41 @@ pub(crate) fn beside(
     }
 }
 
-fn luma_edges(plane: &[u8], w: usize, r: usize, c: usize, right: [u8; 4]) -> LumaEdges
-    requires { ⌜ Placed 16 (now plane) w r c × (w ≤ 1024) ⌝ }
-    ensures { λ e. ⌜ e ≡ lumaBeside (now (plane .entry)) w r c right ⌝ }
+fn luma_edges(plane: &[u8], cols: usize, col: usize, row: usize, right: [u8; 4]) -> LumaEdges
+    requires { ⌜ Placed 16 (now plane) cols col row × (cols ≤ 1024) ⌝ }
+    ensures { λ e. ⌜ e ≡ lumaBeside (now (plane .entry)) cols col row right ⌝ }
 {
     let mut row = [0u8; 21];
-    row_above(&mut row, plane, 16, w, r, c, &right);
+    row_above(&mut row, plane, 16, cols, col, row, &right);
     let mut left = [0u8; 16];
-    left_column(&mut left, plane, 16, w, r, c);
-    let above = 0 < r;
+    left_column(&mut left, plane, 16, cols, col, row);
+    let above = 0 < row;
     LumaEdges {
         row,
         topleft_there: above,
         above_there: above,
         above_right_there: above,
         left,
-        left_there: 0 < c,
+        left_there: 0 < col,
     }
 }
 
 // Nothing of a chroma row lies right of the picture.
-fn chroma_edges(plane: &[u8], w: usize, r: usize, c: usize) -> ChromaEdges
-    requires { ⌜ Placed 8 (now plane) w r c × (w ≤ 1024) ⌝ }
-    ensures { λ e. ⌜ e ≡ chromaBeside (now (plane .entry)) w r c ⌝ }
+fn chroma_edges(plane: &[u8], cols: usize, col: usize, row: usize) -> ChromaEdges
+    requires { ⌜ Placed 8 (now plane) cols col row × (cols ≤ 1024) ⌝ }
+    ensures { λ e. ⌜ e ≡ chromaBeside (now (plane .entry)) cols col row ⌝ }
 {
     let mut row = [0u8; 9];
     let none = [0u8; 4];
-    row_above(&mut row, plane, 8, w, r, c, &none);
+    row_above(&mut row, plane, 8, cols, col, row, &none);
     let mut left = [0u8; 8];
-    left_column(&mut left, plane, 8, w, r, c);
-    let above = 0 < r;
+    left_column(&mut left, plane, 8, cols, col, row);
+    let above = 0 < row;
     ChromaEdges {
         row,
         topleft_there: above,
         above_there: above,
         left,
-        left_there: 0 < c,
+        left_there: 0 < col,
     }
 }

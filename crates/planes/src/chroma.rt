@@ -8,10 +8,9 @@
 //                          2 2 3 3
 ghost use mathlib.Core.Path.{_≡_};
 ghost use Prim.Native.Nat.{_<_};
-ghost use Rattle.lists.specs.Lists.{turns};
-ghost use Rattle.clipping.specs.Clipped.{total};
+ghost use Rattle.lists.specs.Lists.{turns, total};
 ghost use Rattle.planes.specs.Steps.{rowAdded, rowClipped};
-ghost use Rattle.planes.specs.Drawn.{chromaOf, uvDrawn};
+ghost use Rattle.planes.specs.Planes.{chromaOf, uvDrawn};
 use macroblock::ChromaEdges;
 use macroblock::IntraUvMode;
 use macroblock::MbNeighbors;
@@ -94,7 +93,7 @@ pub fn uv_plane(
 {
     let row = edges.row;
     let left = edges.left;
-    let p = blocks::pixel_or(
+    let p = intra_edges::pixel_or(
         MbNeighbors::ABOVE,
         row[0],
         edges.topleft_there,

@@ -17,7 +17,7 @@ use Rattle.rfc6386.proofs.Absent.{SameLuma, SameChroma, yPrediction-same, uvPre
 use Rattle.rfc6386.proofs.Unused.{SameButDc, seeded-same}
 use Rattle.rfc6386.proofs.DctBlocks.{residue-ext}
 use Rattle.clipping.specs.Clipped.{over, blocksClipped, planeClipped, yWholeClipped, uvClipped, yPartsClipped}
-use Rattle.clipping.proofs.Total.{total-ext}
+use Rattle.lists.proofs.Total.{total-ext}
 
 -- ---- the bytes of an absent part
 module _ {d e : LumaEdges} (same : SameLuma d e) (skip : Bool) (c : List ℤ) where

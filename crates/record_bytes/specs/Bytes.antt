@@ -5,12 +5,12 @@
 --
 --        at      10 .. 30     31 .. 46   47 .. 55  56 .. 63   64 .. 72  73 .. 80
 --        pixels  Y row of 21  left       U row     left       V row     left
-use Prim.Native.Nat.{ℕ, zero, suc, _+_}
-use mathlib.Core.Bool.{Bool, true}
+use Prim.Native.Nat.{ℕ, _+_}
+use mathlib.Core.Bool.{Bool}
 use mathlib.Core.List.{List, [], _∷_, _++_}
-use lib.Dec.{leb, eqb}
+use lib.Dec.{eqb}
 use lib.ListN.{getD}
-use Rattle.lists.specs.Lists.{pick, both, part}
+use Rattle.lists.specs.Lists.{pick, part, within}
 use Rattle.macroblock.specs.declared.neighbors.LumaEdges.{LumaEdges}
 use Rattle.macroblock.specs.declared.neighbors.ChromaEdges.{ChromaEdges}
 use Rattle.macroblock.specs.declared.neighbors.MbNeighbors.{MbNeighbors}
@@ -18,11 +18,6 @@ use Rattle.macroblock.specs.declared.neighbors.MbNeighbors.{MbNeighbors}
 -- a mark is there where its byte is 1
 abbrev pub marked : List ℕ → ℕ → Bool
 marked s k = eqb (getD s k 0) 1
-
--- the first n bytes of s are at most m
-unfoldable pub within : ℕ → ℕ → List ℕ → Bool
-within m zero s = true
-within m (suc k) s = both (leb (getD s k 0) m) (within m k s)
 
 -- every mark is 0 or 1
 unfoldable pub marksKnown : List ℕ → Bool

@@ -10,11 +10,11 @@ use Rattle.macroblock.specs.declared.neighbors.LumaEdges.{LumaEdges}
 use Rattle.macroblock.specs.declared.neighbors.ChromaEdges.{ChromaEdges}
 use Rattle.macroblock.specs.declared.neighbors.MbNeighbors.{MbNeighbors}
 
--- ---- a row's part of a plane: given where count ≥ 1, column + count ≤ stride and row * stride + column + count ≤ length,
+-- ---- a row's part of a plane: given where count ≥ 1, column + count ≤ stride and row * stride + column + count ≤ size,
 -- in whole numbers without bound; else the empty part
 unfoldable pub given : ℕ → ℕ → ℕ → ℕ → ℕ → Bool
-given length stride row col count =
-    both (leb 1 count) (both (leb (col + count) stride) (leb (row * stride + col + count) length))
+given size stride row col count =
+    both (leb 1 count) (both (leb (col + count) stride) (leb (row * stride + col + count) size))
 
 unfoldable pub rowPart : List ℕ → ℕ → ℕ → ℕ → ℕ → List ℕ
 rowPart l stride row col count =
@@ -23,10 +23,10 @@ rowPart l stride row col count =
 -- ---- the edges of the macroblock in column c and row r. In the first row nothing stands above, in the first column nothing to the left:
 -- such a part is absent and its bytes are 0. Below the first row all of the row above is there
 abbrev pub aboveThere : ℕ → ℕ → Bool
-aboveThere r c = ltb 0 r
+aboveThere c r = ltb 0 r
 
 abbrev pub leftThere : ℕ → ℕ → Bool
-leftThere r c = ltb 0 c
+leftThere c r = ltb 0 c
 
 -- pixel x of a row of the plane, counted from the border on: the reference decoder's frame has a border of 129 left of the picture; then the
 -- row's own pixels; those right of the picture are given
@@ -36,41 +36,44 @@ pixelOf l stride row right x =
 
 -- m pixels of row n r - 1, from the one before column n c on: 1 + 16 + 4 of luma, 1 + 8 of chroma
 unfoldable pub rowAbove : ℕ → ℕ → List ℕ → ℕ → ℕ → ℕ → List ℕ → List ℕ
-rowAbove n m l w r c right = pick (aboveThere r c) (table m (λ i. pixelOf l (n * w) (n * r - 1) right (n * c + i))) (replicate m 0)
+rowAbove n m l w c r right = pick (aboveThere c r) (table m (λ i. pixelOf l (n * w) (n * r - 1) right (n * c + i))) (replicate m 0)
 
 -- the n pixels of column n c - 1 from row n r on
 unfoldable pub leftOf : ℕ → List ℕ → ℕ → ℕ → ℕ → List ℕ
-leftOf n l w r c =
-    pick (leftThere r c) (table n (λ i. getD l (n * r * (n * w) + (n * c - 1) + i * (n * w)) 0)) (replicate n 0)
+leftOf n l w c r =
+    pick (leftThere c r) (table n (λ i. getD l (n * r * (n * w) + (n * c - 1) + i * (n * w)) 0)) (replicate n 0)
 
 -- ---- the record. `right` is the four luma pixels right of the picture: they are read in the last column below the first row alone
 unfoldable pub lumaBeside : List ℕ → ℕ → ℕ → ℕ → List ℕ → LumaEdges
-lumaBeside l w r c right =
+lumaBeside l w c r right =
     record {
-      row = rowAbove 16 21 l w r c right;
-      «topleft_there» = aboveThere r c;
-      «above_there» = aboveThere r c;
-      «above_right_there» = aboveThere r c;
-      left = leftOf 16 l w r c;
-      «left_there» = leftThere r c;
+      row = rowAbove 16 21 l w c r right;
+      «topleft_there» = aboveThere c r;
+      «above_there» = aboveThere c r;
+      «above_right_there» = aboveThere c r;
+      left = leftOf 16 l w c r;
+      «left_there» = leftThere c r;
     }
 
 unfoldable pub chromaBeside : List ℕ → ℕ → ℕ → ℕ → ChromaEdges
-chromaBeside l w r c =
+chromaBeside l w c r =
     record {
-      row = rowAbove 8 9 l w r c [];
-      «topleft_there» = aboveThere r c;
-      «above_there» = aboveThere r c;
-      left = leftOf 8 l w r c;
-      «left_there» = leftThere r c;
+      row = rowAbove 8 9 l w c r [];
+      «topleft_there» = aboveThere c r;
+      «above_there» = aboveThere c r;
+      left = leftOf 8 l w c r;
+      «left_there» = leftThere c r;
     }
 
 unfoldable pub neighborsOf : List ℕ → List ℕ → List ℕ → ℕ → ℕ → ℕ → List ℕ → MbNeighbors
-neighborsOf y u v w r c right = record { y = lumaBeside y w r c right; u = chromaBeside u w r c; v = chromaBeside v w r c }
+neighborsOf y u v w c r right = record { y = lumaBeside y w c r right; u = chromaBeside u w c r; v = chromaBeside v w c r }
 
 -- ---- the limits: each side 1 to 1,024, the place inside; the planes exactly 256, 64 and 64 bytes a macroblock
 unfoldable pub placeOk : ℕ → ℕ → ℕ → ℕ → Bool
 placeOk w h c r = both (leb w 1024) (both (leb h 1024) (both (ltb c w) (ltb r h)))
+
+unfoldable pub sizeOk : ℕ → ℕ → Bool
+sizeOk w h = placeOk w h 0 0
 
 abbrev pub lumaOk : ℕ → ℕ → ℕ → Bool
 lumaOk y w h = eqb y (256 * (w * h))

@@ -16,7 +16,7 @@ use Rattle.right_pixels.specs.Answers.{lastAbove, refused, rightPixels}
 use Rattle.right_pixels.proofs.Accepted.{row-true, row-false, row-placed, ends}
 
 -- the last pixel of the row above is the last of the sixteen above the last macroblock
-pub last-of-sixteen : (y : List ℕ) (w r : ℕ) (right : List ℕ) → 1 ≤ w → 1 ≤ r → getD (rowAbove 16 21 y w r (w - 1) right) 16 0 ≡ lastAbove y w r
+pub last-of-sixteen : (y : List ℕ) (w r : ℕ) (right : List ℕ) → 1 ≤ w → 1 ≤ r → getD (rowAbove 16 21 y w (w - 1) r right) 16 0 ≡ lastAbove y w r
 unfolding rowAbove pixelOf lastAbove
 last-of-sixteen y w r right a b =
     rw (lt-ltb 0 r b)
@@ -35,7 +35,7 @@ module _ (y : List ℕ) (w h r : ℕ) (p : RightPixels) (e : p ≡ rightPixels y
     length-refused k = e ∙ rw (row-true w h r a b, ne-eqb _ _ k)
 
     pub copies : (right : List ℕ) → length y ≡ 256 * (w * h)
-        → p ≡ record { reply = done; pixels = replicate 4 (getD (rowAbove 16 21 y w r (w - 1) right) 16 0) }
+        → p ≡ record { reply = done; pixels = replicate 4 (getD (rowAbove 16 21 y w (w - 1) r right) 16 0) }
     unfolding rightPixels
     copies right q = e ∙ rw (row-true w h r a b, eq-eqb _ _ q, last-of-sixteen y w r right (b .column) a)
 

@@ -4,7 +4,7 @@ ghost use mathlib.Core.Path.{_≡_};
 ghost use Prim.Native.Nat.{_+_, _*_, _<_, _≤_};
 ghost use lib.Dec.{eqb};
 ghost use lib.ListN.{length};
-ghost use Rattle.slices.specs.Copies.{_beside_};
+ghost use Rattle.lists.specs.Lists.{_beside_};
 ghost use Rattle.shelf.specs.Shelf.{lengthsFit, jobDrawn, shelfAnswer, fewAnswer, bytesAt, bytesAnswer};
 ghost use Rattle.shelf.specs.Steps.{planned, begun, Ready, Put, atMost32};
 use macroblock::MbModes;

@@ -4,8 +4,8 @@ use mathlib.Core.Path.{refl}
 use native.Mathlib.Omega.{arith}
 use borrow.Author.Needs.{needs}
 use Rattle.clipping.proofs.Bounds.{y-parts-≤, uv-≤}
-use Rattle.planes.specs.Drawn.{uvDrawn}
-use Rattle.sub_blocks.specs.Drawn.{partsDrawn}
+use Rattle.planes.specs.Planes.{uvDrawn}
+use Rattle.sub_blocks.specs.Parts.{partsDrawn}
 use Rattle.reconstruct.specs.Answers.{partsOf}
 use Rattle.reconstruct.proofs.parts.Statement.{statement}
 use Rattle.reconstruct.proofs.parts.Tie as tie

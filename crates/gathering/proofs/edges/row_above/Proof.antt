@@ -1,34 +1,28 @@
 -- `gathering::edges::row_above` meets its contract: inside the picture the plane has the part, and all of it is copied; at its ends the
 -- picture's row is read pixel by pixel. Assumes nothing.
+use mathlib.Core.Path.{refl}
 use native.Mathlib.Omega.{arith}
 use borrow.Author.Needs.{needs}
 use borrow.Author.Tests.{le-ltb}
 use Rattle.rfc6386.specs.Picture.{rowAbove}
 use Rattle.picture_limits.proofs.Bounds.{Above, Left, above, left, bounds}
-use Rattle.gathering.proofs.Copied.{row-length, border-is, inside-length, inside-is}
+use Rattle.gathering.proofs.Copied.{row-length, border-is, inside-is}
 use Rattle.gathering.proofs.edges.row_above.Statement.{statement}
 use Rattle.gathering.proofs.edges.row_above.Tie as tie
 
 -- below the first row
-up : (c : tie.Else1) → (let a = c .before .before .before .args in Above (a .n) (a .plane .now) (a .w) (a .r) (a .c))
+up : (c : tie.Else1) → (let a = c .before .before .before .args in Above (a .n) (a .plane .now) (a .cols) (a .col) (a .row))
 up c = above (c .before .before .before .pre .0) (omega arith)
 
 -- and right of the first column
-side : (c : tie.Then2) → (let a = c .before .before .before .before .args in Left (a .n) (a .plane .now) (a .w) (a .r) (a .c))
+side : (c : tie.Then2) → (let a = c .before .before .before .before .args in Left (a .n) (a .plane .now) (a .cols) (a .col) (a .row))
 side c = left (c .before .before .before .before .pre .0) (c .if2 .taken)
 
 returns : tie.Need-returns
 unfolding rowAbove
 returns c =
     let s = c .before .before .before in
-    rw (le-ltb 0 (s .args .r) (omega arith)) (s .pre .1)
-
-copy-requires : tie.Need-copy-requires
-copy-requires c κs =
-    let t = c .before .before in
-    let i = t .before .before in
-    let b = i .before .before .before .pre in
-    rw (inside-length (b .0) (omega arith) (t .before .if2 .taken) _ (b .2) (t .if3 .taken) _ (c .before .row-part .ensures .0)) (omega arith)
+    rw (le-ltb 0 (s .args .row) (omega arith)) (s .pre .1)
 
 returns-2 : tie.Need-returns-2
 returns-2 c =
@@ -37,7 +31,7 @@ returns-2 c =
     let t = e .before in
     let i = t .before .before in
     let b = i .before .before .before .pre in
-    inside-is (b .0) (omega arith) (t .before .if2 .taken) _ (b .2) (t .if3 .taken) _ (e .row-part .ensures .0) _ _ (d .copy .ensures)
+    inside-is (b .0) (omega arith) (t .before .if2 .taken) _ (b .2) (t .if3 .taken) _ (e .row-part .ensures .0) _ _ _ refl (d .copy .ensures)
 
 border-row-requires : tie.Need-border-row-requires
 border-row-requires c κs =
@@ -68,7 +62,7 @@ row-above-spec =
     (λ c. let k = up (c .before .before) in omega arith)
     (λ c. let k = side (c .before) in omega arith)
     (λ c κs. search needs)
-    copy-requires
+    (λ c κs. tt)
     (λ c. search needs)
     returns-2
     (λ c. let k = up (c .before) in omega arith)

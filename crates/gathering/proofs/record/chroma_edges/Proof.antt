@@ -19,7 +19,7 @@ returns c =
     let u = l .before .before .before in
     let s = u .before .before .before .before in
     let b = bounds (s .pre .0) in
-    rw (u .row-above .ensures, l .left-column .ensures, row-unread 8 9 (s .args .w) (s .args .r) (s .args .c) (s .args .plane .now) _ [] (omega arith))
+    rw (u .row-above .ensures, l .left-column .ensures, row-unread 8 9 (s .args .cols) (s .args .col) (s .args .row) (s .args .plane .now) _ [] (omega arith))
 
 pub chroma-edges-spec : {M : Type 1} → statement M
 chroma-edges-spec =

@@ -33,7 +33,7 @@ pub record There (l : List ℕ) (k : ℕ) (at : ℕ → ℕ) (mark : Bool) (byte
   pub pixels : (i : ℕ) → i < k → getD bytes i 0 ≡ getD l (at i) 0
 
 -- the three edges that each plane has: the top-left pixel p, the row above and the left column. A row of the plane has n w pixels
-pub record Around (n : ℕ) (l : List ℕ) (w r c p : ℕ) (above left : List ℕ) (p-mark above-mark left-mark : Bool) : Type 0 where
+pub record Around (n : ℕ) (l : List ℕ) (w c r p : ℕ) (above left : List ℕ) (p-mark above-mark left-mark : Bool) : Type 0 where
   pub above-outside : r ≡ 0 → Absent n above-mark above
   pub above-beside : 0 < r → There l n (λ i. (n * r - 1) * (n * w) + n * c + i) above-mark above
   pub left-outside : c ≡ 0 → Absent n left-mark left

@@ -36,16 +36,16 @@ fn luma_edges(plane: &[u8], cols: usize, col: usize, row: usize, right: [u8; 4])
     requires { ⌜ Placed 16 (now plane) cols col row × (cols ≤ 1024) ⌝ }
     ensures { λ e. ⌜ e ≡ lumaBeside (now (plane .entry)) cols col row right ⌝ }
 {
-    let mut row = [0u8; 21];
-    row_above(&mut row, plane, 16, cols, col, row, &right);
+    let mut above = [0u8; 21];
+    row_above(&mut above, plane, 16, cols, col, row, &right);
     let mut left = [0u8; 16];
     left_column(&mut left, plane, 16, cols, col, row);
-    let above = 0 < row;
+    let there = 0 < row;
     LumaEdges {
-        row,
-        topleft_there: above,
-        above_there: above,
-        above_right_there: above,
+        row: above,
+        topleft_there: there,
+        above_there: there,
+        above_right_there: there,
         left,
         left_there: 0 < col,
     }
@@ -56,16 +56,16 @@ fn chroma_edges(plane: &[u8], cols: usize, col: usize, row: usize) -> ChromaEdge
     requires { ⌜ Placed 8 (now plane) cols col row × (cols ≤ 1024) ⌝ }
     ensures { λ e. ⌜ e ≡ chromaBeside (now (plane .entry)) cols col row ⌝ }
 {
-    let mut row = [0u8; 9];
+    let mut above = [0u8; 9];
     let none = [0u8; 4];
-    row_above(&mut row, plane, 8, cols, col, row, &none);
+    row_above(&mut above, plane, 8, cols, col, row, &none);
     let mut left = [0u8; 8];
     left_column(&mut left, plane, 8, cols, col, row);
-    let above = 0 < row;
+    let below = 0 < row;
     ChromaEdges {
-        row,
-        topleft_there: above,
-        above_there: above,
+        row: above,
+        topleft_there: below,
+        above_there: below,
         left,
         left_there: 0 < col,
     }

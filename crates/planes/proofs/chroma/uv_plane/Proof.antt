@@ -3,7 +3,7 @@ use mathlib.Core.Path.{refl}
 use borrow.Author.Needs.{needs}
 use Rattle.rfc6386.specs.Walk.{uvPlane, uvPrediction}
 use Rattle.clipping.specs.Clipped.{uvClipped}
-use Rattle.planes.specs.Drawn.{chromaOf, uvDrawn}
+use Rattle.planes.specs.Planes.{chromaOf, uvDrawn}
 use Rattle.planes.proofs.chroma.uv_plane.Statement.{statement}
 use Rattle.planes.proofs.chroma.uv_plane.Tie as tie
 

@@ -7,7 +7,7 @@ ghost use Rattle.predict_slices.specs.Answers.{lumaAnswer, chromaAnswer, subBlo
 ghost use Rattle.macroblock_slices.specs.Answers.{mbAnswer};
 ghost use Rattle.gather_bytes.specs.Answer.{gatherAnswer};
 ghost use Rattle.right_pixels.specs.Answers.{rightAnswer};
-ghost use Rattle.shelf.specs.Shelf.{bytesAnswer};
+ghost use Rattle.shelf_items.specs.Shelf.{bytesAnswer};
 ghost use Rattle.still_numbers.specs.Numbers.{stillNumber, aloneNumber};
 ghost use Rattle.mb_quantiser.specs.Answers.{slicesAnswer};
 
@@ -234,5 +234,5 @@ pub extern "C" fn zopredil_shelf(
         ≡ bytesAnswer (now (modes .entry)) (now (records .entry)) (now («sub_modes» .entry)) (now (coeffs .entry))
         (now (out .entry)) (now (replies .entry)) (now (clipped .entry)) ⌝ }
 {
-    shelf::shelf_bytes(modes, records, sub_modes, coeffs, out, replies, clipped)
+    shelf_items::shelf_bytes(modes, records, sub_modes, coeffs, out, replies, clipped)
 }

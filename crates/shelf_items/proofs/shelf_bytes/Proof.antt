@@ -1,4 +1,4 @@
--- `shelf::shelf_bytes` meets its contract. Assumes nothing.
+-- `shelf_items::shelf_bytes` meets its contract. Assumes nothing.
 use Prim.Native.Nat.{ℕ, _*_, _≤_, _-_}
 use mathlib.Core.Path.{_≡_, refl, sym, ap, subst, _∙_}
 use mathlib.Core.List.{List}
@@ -6,14 +6,14 @@ use native.Mathlib.Omega.{arith}
 use borrow.Author.Tests.{eqb-true, not-true, not-false}
 use lib.Dec.{lit<}
 use lib.ListN.{length}
-use Rattle.shelf.specs.declared.Plan.{Plan}
-use Rattle.shelf.specs.Shelf.{bytesAt}
-use Rattle.shelf.proofs.Turns.{outAfter, repliesAfter, countAfter, out-zero, replies-zero, count-zero, out-turn, replies-turn, count-turn}
-use Rattle.shelf.proofs.Answered.{items-≤, turn-ready}
-use Rattle.shelf.proofs.Drawn.{bytes-shape}
-use Rattle.shelf.proofs.Told.{no-modes, no-records, bytes-told}
-use Rattle.shelf.proofs.shelf_bytes.Statement.{statement}
-use Rattle.shelf.proofs.shelf_bytes.Tie as tie
+use Rattle.shelf_items.specs.declared.Plan.{Plan}
+use Rattle.shelf_items.specs.Shelf.{bytesAt}
+use Rattle.shelf_items.proofs.Turns.{outAfter, repliesAfter, countAfter, out-zero, replies-zero, count-zero, out-turn, replies-turn, count-turn}
+use Rattle.shelf_items.proofs.Answered.{items-≤, turn-ready}
+use Rattle.shelf_items.proofs.Drawn.{bytes-shape}
+use Rattle.shelf_items.proofs.Told.{no-modes, no-records, bytes-told}
+use Rattle.shelf_items.proofs.shelf_bytes.Statement.{statement}
+use Rattle.shelf_items.proofs.shelf_bytes.Tie as tie
 
 abbrev Inv-loop : tie.InvT-loop
 Inv-loop modes records sub-modes coeffs out₀ replies₀ clipped₀ n plan i₀ i-end out replies clipped i =

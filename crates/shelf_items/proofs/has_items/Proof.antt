@@ -1,8 +1,8 @@
--- `shelf::has_items` meets its contract. Assumes nothing.
+-- `shelf_items::has_items` meets its contract. Assumes nothing.
 use native.Mathlib.Omega.{arith}
-use Rattle.shelf.proofs.Lengths.{not-items, items}
-use Rattle.shelf.proofs.has_items.Statement.{statement}
-use Rattle.shelf.proofs.has_items.Tie as tie
+use Rattle.shelf_items.proofs.Lengths.{not-items, items}
+use Rattle.shelf_items.proofs.has_items.Statement.{statement}
+use Rattle.shelf_items.proofs.has_items.Tie as tie
 
 returns : tie.Need-returns
 returns c = not-items (c .before .args .length) (c .before .args .each) (c .before .args .n) ((c .before .pre)) (c .if1 .taken)

@@ -1,12 +1,12 @@
--- `shelf::put_item` meets its contract. Assumes nothing.
+-- `shelf_items::put_item` meets its contract. Assumes nothing.
 use mathlib.Core.Path.{_∙_, refl}
 use native.Mathlib.Omega.{arith}
 use borrow.Author.Needs.{needs}
 use Rattle.slices.proofs.Copied.{put-fit}
 use Rattle.slices.proofs.Parts.{part-put}
 use Rattle.drawing.specs.Drawn.{planesOf}
-use Rattle.shelf.proofs.put_item.Statement.{statement}
-use Rattle.shelf.proofs.put_item.Tie as tie
+use Rattle.shelf_items.proofs.put_item.Statement.{statement}
+use Rattle.shelf_items.proofs.put_item.Tie as tie
 
 reply-fits : tie.Need-cast-replies
 reply-fits c = let h = c .before .before .before .before .before .before .before .before .before .before .before .pre .0 in omega (arith, h)

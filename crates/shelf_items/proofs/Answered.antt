@@ -12,10 +12,10 @@ use Rattle.macroblock.specs.Reply.{wrongLength}
 use Rattle.clipping.proofs.Total.{total-≤}
 use Rattle.reconstruct.specs.declared.ReconstructedMb.{ReconstructedMb}
 use Rattle.drawing.proofs.Shape.{Shape}
-use Rattle.shelf.specs.declared.Plan.{Plan}
-use Rattle.shelf.specs.Shelf.{shelved, lengthsFit}
-use Rattle.shelf.specs.Steps.{planIf, planned, begun, Ready}
-use Rattle.shelf.proofs.Turns.{fits, outAfter, repliesAfter, countAfter, out-zero, replies-zero, count-zero, out-done, replies-done, count-done}
+use Rattle.shelf_items.specs.declared.Plan.{Plan}
+use Rattle.shelf_items.specs.Shelf.{shelved, lengthsFit}
+use Rattle.shelf_items.specs.Steps.{planIf, planned, begun, Ready}
+use Rattle.shelf_items.proofs.Turns.{fits, outAfter, repliesAfter, countAfter, out-zero, replies-zero, count-zero, out-done, replies-done, count-done}
 
 -- ---- the plan
 module _ (n subs coeffs out replies clipped : ℕ) where

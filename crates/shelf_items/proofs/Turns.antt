@@ -19,7 +19,7 @@ use Rattle.clipping.specs.Clipped.{total}
 use Rattle.reconstruct.specs.declared.ReconstructedMb.{ReconstructedMb}
 use Rattle.drawing.specs.Drawn.{planesOf}
 use Rattle.drawing.proofs.Shape.{Shape, planes-length}
-use Rattle.shelf.specs.Shelf.{joined, lengthsFit}
+use Rattle.shelf_items.specs.Shelf.{joined, lengthsFit}
 
 -- ---- what the test of the lengths says
 pub record Fits (n subs coeffs out replies clipped : ℕ) : Type 0 where

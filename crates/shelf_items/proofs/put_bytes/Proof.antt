@@ -1,11 +1,11 @@
--- `shelf::put_bytes` meets its contract. Assumes nothing.
+-- `shelf_items::put_bytes` meets its contract. Assumes nothing.
 use mathlib.Core.Path.{subst, sym}
 use native.Mathlib.Omega.{arith}
 use borrow.Author.Needs.{needs}
 use Rattle.drawing.proofs.Shape.{Shape}
-use Rattle.shelf.proofs.Drawn.{bytes-drawn, bytes-shape}
-use Rattle.shelf.proofs.put_bytes.Statement.{statement}
-use Rattle.shelf.proofs.put_bytes.Tie as tie
+use Rattle.shelf_items.proofs.Drawn.{bytes-drawn, bytes-shape}
+use Rattle.shelf_items.proofs.put_bytes.Statement.{statement}
+use Rattle.shelf_items.proofs.put_bytes.Tie as tie
 
 put-item-requires : tie.Need-put-item-requires
 put-item-requires c κs =

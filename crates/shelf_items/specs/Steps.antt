@@ -1,17 +1,17 @@
 -- The steps of a shelf: how many items are to be drawn, and what a turn may rely on.
-use Prim.Native.Nat.{ℕ, _+_, _*_, _<_, _≤_}
+use Prim.Native.Nat.{ℕ, _+_, _*_, _/_, _<_, _≤_}
 use mathlib.Core.Path.{_≡_}
 use mathlib.Core.Bool.{Bool}
 use mathlib.Core.List.{List, [], _∷_}
 use borrow.Rule.Slice.PartMut.{putMid}
-use lib.Dec.{ltb}
+use lib.Dec.{leb, ltb, eqb}
 use lib.ListN.{length, getD, set}
-use Rattle.lists.specs.Lists.{pick}
+use Rattle.lists.specs.Lists.{pick, both}
 use Rattle.macroblock.specs.Reply.{done, wrongLength}
 use Rattle.reconstruct.specs.declared.ReconstructedMb.{ReconstructedMb}
 use Rattle.drawing.specs.Drawn.{planesOf}
-use Rattle.shelf.specs.declared.Plan.{Plan}
-use Rattle.shelf.specs.Shelf.{lengthsFit}
+use Rattle.shelf_items.specs.declared.Plan.{Plan}
+use Rattle.shelf_items.specs.Shelf.{lengthsFit}
 
 -- all items where every list fits them, else none
 abbrev pub planIf : Bool → ℕ → Plan
@@ -36,5 +36,15 @@ abbrev pub Put : ℕ → ReconstructedMb → List ℕ → List ℕ → List ℕ 
 Put i r out replies clipped out′ replies′ clipped′ =
     (out′ ≡ putMid (384 * i) 384 out (planesOf r)) × (replies′ ≡ set replies i (r .reply)) × (clipped′ ≡ (getD clipped 0 0 + r .clipped) ∷ [])
 
-unfoldable pub atMost32 : ℕ → ℕ
-atMost32 count = pick (ltb count 32) count 32
+-- whether item i has its place in every list, and the count before it is one that i items can have
+unfoldable pub hasPlace : ℕ → ℕ → ℕ → ℕ → ℕ → List ℕ → Bool
+hasPlace i subs coeffs out replies clipped =
+    both (ltb i (subs / 16))
+    (both (ltb i (coeffs / 400)) (both (ltb i (out / 384)) (both (ltb i replies) (both (eqb (length clipped) 1) (leb (getD clipped 0 0) (384 * i))))))
+
+-- the same where b holds, else nothing
+abbrev pub PutIf : Bool → ℕ → ReconstructedMb → List ℕ → List ℕ → List ℕ → List ℕ → List ℕ → List ℕ → Type 0
+PutIf b i r out replies clipped out′ replies′ clipped′ =
+    (out′ ≡ pick b (putMid (384 * i) 384 out (planesOf r)) out)
+    × (replies′ ≡ pick b (set replies i (r .reply)) replies)
+    × (clipped′ ≡ pick b ((getD clipped 0 0 + r .clipped) ∷ []) clipped)

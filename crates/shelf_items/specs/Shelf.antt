@@ -16,7 +16,7 @@ use Rattle.macroblock.specs.declared.modes.IntraUvMode.the-variants as uv
 use Rattle.clipping.specs.Clipped.{total}
 use Rattle.reconstruct.specs.declared.ReconstructedMb.{ReconstructedMb}
 use Rattle.drawing.specs.Drawn.{planesOf, drawnWith, drawnBytes}
-use Rattle.shelf.specs.declared.Job.{Job}
+use Rattle.shelf_items.specs.declared.Job.{Job}
 
 -- f 0 .. f (n - 1), one after another
 unfoldable pub joined : ℕ → (ℕ → List ℕ) → List ℕ

@@ -1,11 +1,11 @@
--- `shelf::put_job` meets its contract. Assumes nothing.
+-- `shelf_items::draw_job` meets its contract. Assumes nothing.
 use mathlib.Core.Path.{subst, sym}
 use native.Mathlib.Omega.{arith}
 use borrow.Author.Needs.{needs}
 use Rattle.drawing.proofs.Shape.{Shape}
-use Rattle.shelf.proofs.Drawn.{job-drawn, job-shape}
-use Rattle.shelf.proofs.put_job.Statement.{statement}
-use Rattle.shelf.proofs.put_job.Tie as tie
+use Rattle.shelf_items.proofs.Drawn.{job-drawn, job-shape}
+use Rattle.shelf_items.proofs.draw_job.Statement.{statement}
+use Rattle.shelf_items.proofs.draw_job.Tie as tie
 
 put-item-requires : tie.Need-put-item-requires
 put-item-requires c κs =
@@ -27,8 +27,8 @@ returns c =
     let e = job-drawn (a .job) (a .sub-modes .now) (a .coeffs .now) (a .i) _ _ (start .pre .0) (sixteen .sixteen .ensures) (draw-with .draw-with .ensures) in
     rw (← e) (put-item .put-item .ensures)
 
-pub put-job-spec : {M : Type 1} → statement M
-put-job-spec =
+pub draw-job-spec : {M : Type 1} → statement M
+draw-job-spec =
     tie.close
     (tie.spec
     (λ c. search needs)

@@ -11,8 +11,8 @@ use Rattle.reconstruct.specs.declared.ReconstructedMb.{ReconstructedMb}
 use Rattle.drawing.specs.Drawn.{drawnWith, drawnBytes}
 use Rattle.drawing.proofs.Shape.{Shape, with-shape}
 use Rattle.drawing.proofs.Shape.{bytes-shape as item-shape}
-use Rattle.shelf.specs.declared.Job.{Job}
-use Rattle.shelf.specs.Shelf.{noJob, jobDrawn, jobAt, bytesAt}
+use Rattle.shelf_items.specs.declared.Job.{Job}
+use Rattle.shelf_items.specs.Shelf.{noJob, jobDrawn, jobAt, bytesAt}
 
 -- ---- a job
 pub job-drawn : (job : Job) (subs : List ℕ) (coeffs : List ℤ) (i : ℕ) (s : List ℕ) (r : ReconstructedMb) → 16 * i + 16 ≤ length subs

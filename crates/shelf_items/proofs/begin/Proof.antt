@@ -1,13 +1,13 @@
--- `shelf::begin` meets its contract. Assumes nothing.
+-- `shelf_items::begin` meets its contract. Assumes nothing.
 use mathlib.Core.Path.{refl, sym, _∙_}
 use mathlib.Core.List.{[], _∷_}
 use borrow.Author.Needs.{needs}
 use borrow.Author.Tests.{not-true, not-false}
 use Rattle.slices.proofs.Copied.{put-fit}
-use Rattle.shelf.specs.Steps.{planned, begun}
-use Rattle.shelf.proofs.Turns.{fits}
-use Rattle.shelf.proofs.begin.Statement.{statement}
-use Rattle.shelf.proofs.begin.Tie as tie
+use Rattle.shelf_items.specs.Steps.{planned, begun}
+use Rattle.shelf_items.proofs.Turns.{fits}
+use Rattle.shelf_items.proofs.begin.Statement.{statement}
+use Rattle.shelf_items.proofs.begin.Tie as tie
 
 returns : tie.Need-returns
 unfolding planned begun

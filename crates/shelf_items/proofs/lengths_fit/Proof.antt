@@ -1,10 +1,10 @@
--- `shelf::lengths_fit` meets its contract. Assumes nothing.
+-- `shelf_items::lengths_fit` meets its contract. Assumes nothing.
 use mathlib.Core.Path.{refl, sym, _∙_}
 use borrow.Author.Tests.{eq-eqb, ne-eqb, not-true, not-false}
 use lib.Dec.{lit<}
-use Rattle.shelf.specs.Shelf.{lengthsFit}
-use Rattle.shelf.proofs.lengths_fit.Statement.{statement}
-use Rattle.shelf.proofs.lengths_fit.Tie as tie
+use Rattle.shelf_items.specs.Shelf.{lengthsFit}
+use Rattle.shelf_items.proofs.lengths_fit.Statement.{statement}
+use Rattle.shelf_items.proofs.lengths_fit.Tie as tie
 
 returns : tie.Need-returns
 unfolding lengthsFit

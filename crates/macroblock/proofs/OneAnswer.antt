@@ -14,6 +14,8 @@ use Rattle.macroblock.specs.declared.numbers.BModeOf.the-variants as bOf
 use Rattle.macroblock.specs.Modes.{yAnswer, uvAnswer, bAnswer}
 use Rattle.macroblock.proofs.neighbors.MbNeighbors.absent.Reads as absent
 use Rattle.macroblock.proofs.neighbors.MbNeighbors.absent.Kinds as absent-k
+use Rattle.macroblock.proofs.reply.numbers.Reads as replies
+use Rattle.macroblock.proofs.reply.numbers.Kinds as replies-k
 use Rattle.macroblock.proofs.numbers.y_mode_number.Reads as y-mode-number
 use Rattle.macroblock.proofs.numbers.y_mode_number.Kinds as y-mode-number-k
 use Rattle.macroblock.proofs.numbers.uv_mode_number.Reads as uv-mode-number
@@ -29,6 +31,9 @@ use Rattle.macroblock.proofs.numbers.b_mode_of.Kinds as b-mode-of-k
 
 pub absent-one : OneAnswer 0 absent-k.ps absent-k.r absent.Post
 absent-one κs a x y s t = same
+
+pub replies-one : OneAnswer 0 replies-k.ps replies-k.r replies.Post
+replies-one κs a x y s t = same
 
 pub y-mode-number-one : OneAnswer 0 y-mode-number-k.ps y-mode-number-k.r y-mode-number.Post
 y-mode-number-one κs a x y s t = same

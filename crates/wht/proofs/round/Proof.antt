@@ -1,6 +1,5 @@
 -- `wht::round` meets its contract. Assumes nothing.
 use mathlib.Core.Path.{_∙_, ap}
-use borrow.Author.Needs.{needs}
 use lib.IntN.{pos, _+ℤ_}
 use Rattle.whole.specs.Whole.{narrow}
 use Rattle.whole.proofs.Held.{R32, held16}
@@ -17,4 +16,4 @@ unfolding whtRound
 returns c = held16 _ (c .narrow .ok) ∙ c .narrow .ensures ∙ ap narrow (held (down (held (sum (c .before)) tt) 8) tt .is)
 
 pub round-spec : {M : Type 1} → statement M
-round-spec = tie.close (tie.spec (λ c. fits32 (sum c) tt) (λ c κs. search needs) returns)
+round-spec = tie.close (tie.spec (λ c. fits32 (sum c) tt) (λ c κs. tt) returns)

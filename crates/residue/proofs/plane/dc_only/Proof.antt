@@ -2,7 +2,6 @@
 use mathlib.Core.Path.{_∙_, ap}
 use Prim.Native.Nat.{_≤_}
 use native.Mathlib.Omega.{arith}
-use borrow.Author.Needs.{needs}
 use lib.IntN.{ℤ, pos, negsuc, natAbs, _+ℤ_}
 use lib.ListN.{replicate}
 use lib.Signed.{shrZ}
@@ -36,4 +35,4 @@ returns c =
     (held16 _ (c .narrow .ok) ∙ c .narrow .ensures ∙ ap narrow (held (down (held sum tt) 8) tt .is) ∙ narrow-held (shrZ z 8) (short z (sum .small)))
 
 pub dc-only-spec : {M : Type 1} → statement M
-dc-only-spec = tie.close (tie.spec (λ c κs. search needs) (λ c. fits32 (total c) tt) (λ c κs. search needs) returns)
+dc-only-spec = tie.close (tie.spec (λ c κs. tt) (λ c. fits32 (total c) tt) (λ c κs. tt) returns)

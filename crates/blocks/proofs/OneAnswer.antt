@@ -1,16 +1,11 @@
 -- Each promise of `blocks` admits one answer only. Assumes nothing.
 use Rattle.lists.proofs.Answer.{OneAnswer, same}
-use Rattle.blocks.proofs.pixel_or.Reads as pixel-or
-use Rattle.blocks.proofs.pixel_or.Kinds as pixel-or-k
 use Rattle.blocks.proofs.first.Reads as first
 use Rattle.blocks.proofs.first.Kinds as first-k
 use Rattle.blocks.proofs.four.Reads as four
 use Rattle.blocks.proofs.four.Kinds as four-k
 use Rattle.blocks.proofs.residues.Reads as residues
 use Rattle.blocks.proofs.residues.Kinds as residues-k
-
-pub pixel-or-one : OneAnswer 0 pixel-or-k.ps pixel-or-k.r pixel-or.Post
-pixel-or-one κs a x y s t = same
 
 pub first-one : OneAnswer 1 first-k.ps first-k.r first.Post
 first-one κs a x y s t = same

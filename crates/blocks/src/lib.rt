@@ -1,18 +1,10 @@
 // What the luma and the chroma of a macroblock share: the caller's coefficients, taken and transformed four blocks side by
-// side (RFC 6386, 14.4), and what stands for an absent pixel (12.2).
+// side (RFC 6386, 14.4).
 ghost use mathlib.Core.Path.{_≡_};
 ghost use Prim.Native.Nat.{_+_, _≤_};
 ghost use lib.IntN.{pos};
 ghost use lib.ListN.{length, getD};
-ghost use Rattle.rfc6386.specs.Edges.{pixelOr};
 ghost use Rattle.blocks.specs.Taken.{taken, residuesFrom};
-
-// One pixel, or `other` where it is absent.
-pub fn pixel_or(other: u8, pixel: u8, there: bool) -> u8
-    ensures { λ r. ⌜ r ≡ pixelOr other pixel there ⌝ }
-{
-    if there { pixel } else { other }
-}
 
 // Coefficient at + k, or 0 where the slice has ended.
 fn coefficient(coeffs: &[i16], at: usize, k: usize) -> i16

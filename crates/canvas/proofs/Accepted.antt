@@ -23,7 +23,7 @@ module _ (y u v : List ℕ) (w h c r : ℕ) (right : List ℕ) (e : gathered y u
   tests : (placeOk w h c r ≡ true) × (sizesOk (length y) (length u) (length v) w h ≡ true)
   unfolding gathered
   tests =
-      both-hold (placeOk w h c r) (sizesOk (length y) (length u) (length v) w h) (record { reply = 0; neighbors = neighborsOf y u v w r c right }) e
+      both-hold (placeOk w h c r) (sizesOk (length y) (length u) (length v) w h) (record { reply = 0; neighbors = neighborsOf y u v w c r right }) e
 
   pub within : Within w h c r
   within = place-says w h c r (tests .0)
@@ -31,11 +31,11 @@ module _ (y u v : List ℕ) (w h c r : ℕ) (right : List ℕ) (e : gathered y u
   pub lengths : Lengths (length y) (length u) (length v) w h
   lengths = sizes-say (length y) (length u) (length v) w h (tests .1)
 
-  pub y-placed : Placed 16 y w r c
+  pub y-placed : Placed 16 y w c r
   y-placed = placed 16 y w h c r (omega arith) (within .column) (within .row) (lengths .y-plane)
 
-  pub u-placed : Placed 8 u w r c
+  pub u-placed : Placed 8 u w c r
   u-placed = placed 8 u w h c r (omega arith) (within .column) (within .row) (lengths .u-plane)
 
-  pub v-placed : Placed 8 v w r c
+  pub v-placed : Placed 8 v w c r
   v-placed = placed 8 v w h c r (omega arith) (within .column) (within .row) (lengths .v-plane)

@@ -5,14 +5,14 @@ use mathlib.Core.Path.{_≡_, refl}
 use mathlib.Core.List.{List}
 use borrow.Author.Tests.{eq-eqb, ne-eqb}
 use lib.IntN.{ℤ}
-use Rattle.slices.specs.Copies.{_beside_}
-use Rattle.slices.proofs.Pairs.{pair}
+use Rattle.lists.specs.Lists.{_beside_}
+use Rattle.lists.proofs.Pairs.{pair}
 use Rattle.gathering.specs.declared.Gathered.{Gathered}
 use Rattle.gathering.specs.Answers.{gathered}
 use Rattle.reconstruct.specs.declared.ReconstructedMb.{ReconstructedMb}
 use Rattle.drawing.specs.Drawn.{drawn}
 use Rattle.canvas.specs.Placed.{placed}
-use Rattle.canvas.specs.Drawn.{made, drawnInto, clippedInto, toldInto}
+use Rattle.canvas.specs.Into.{made, drawnInto, clippedInto, toldInto}
 
 module _ (w h c r luma chroma skip : ℕ) (subs right : List ℕ) (coeffs : List ℤ) (y u v : List ℕ) (g : Gathered) (e : g ≡ gathered y u v w h c r right) where
   pub not-gathered : (g .reply ≡ 0 → ⊥)
@@ -35,7 +35,7 @@ module _ (w h c r luma chroma skip : ℕ) (subs right : List ℕ) (coeffs : List
     not-drawn k = pair (rw (← e, eq-eqb (g .reply) 0 z, ← is-made, ne-eqb (m .reply) 0 k)) counted
 
     pub is-drawn : (yy uu vv : List ℕ) → m .reply ≡ 0
-        → (yy ≡ placed 16 w r c (m .y) y) × (uu ≡ placed 8 w r c (m .u) u) × (vv ≡ placed 8 w r c (m .v) v)
+        → (yy ≡ placed 16 w c r (m .y) y) × (uu ≡ placed 8 w c r (m .u) u) × (vv ≡ placed 8 w c r (m .v) v)
         → ((0 beside yy beside uu beside vv) beside m .clipped) ≡ toldInto w h c r luma chroma skip subs right coeffs y u v
     unfolding drawnInto
     is-drawn yy uu vv k p =

@@ -3,7 +3,7 @@ use mathlib.Core.Path.{_≡_, refl}
 use mathlib.Core.List.{List}
 use Prim.Native.Nat.{ℕ}
 use Rattle.lists.proofs.Answer.{OneAnswerIn}
-use Rattle.slices.proofs.Pairs.{same-pair}
+use Rattle.lists.proofs.Pairs.{same-pair}
 use Rattle.canvas.specs.declared.DrawnMb.{DrawnMb}
 use Rattle.canvas.proofs.draw_macroblock.Reads as draw-macroblock
 use Rattle.canvas.proofs.draw_macroblock.Kinds as draw-macroblock-k

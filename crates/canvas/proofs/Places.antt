@@ -9,15 +9,15 @@ use Rattle.picture_limits.specs.Place.{Placed}
 use Rattle.picture_limits.proofs.Bounds.{bounds}
 
 -- row i of the block, and what its numbers keep to
-pub record RowAt (n : ℕ) (l : List ℕ) (w r c i : ℕ) : Type 0 where
+pub record RowAt (n : ℕ) (l : List ℕ) (w c r i : ℕ) : Type 0 where
   pub stride : n * w ≤ length l
   pub above : n * r ≤ length l
   pub top : n * r * (n * w) + i * (n * w) ≤ length l
   pub across : n * c ≤ length l
   pub whole : n * r * (n * w) + i * (n * w) + n * c + n ≤ length l
 
-pub row-at : {n : ℕ} {l : List ℕ} {w r c : ℕ} (p : Placed n l w r c) (i : ℕ) → i < n → RowAt n l w r c i
-row-at {n} {l} {w} {r} {c} p i h =
+pub row-at : {n : ℕ} {l : List ℕ} {w c r : ℕ} (p : Placed n l w c r) (i : ℕ) → i < n → RowAt n l w c r i
+row-at {n} {l} {w} {c} {r} p i h =
     let b = bounds p in
     let column : n * c + n ≤ n * w = b .column in
     let rows : n * r * (n * w) + n * (n * w) ≤ length l = b .rows in

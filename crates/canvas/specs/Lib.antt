@@ -1,3 +1,3 @@
 -- One macroblock drawn at its place in a picture's planes.
 pub mod Placed
-pub mod Drawn
+pub mod Into

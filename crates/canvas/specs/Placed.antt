@@ -7,10 +7,10 @@ use Rattle.lists.specs.Lists.{turns, store}
 
 -- the place of pixel x of the block's row i
 unfoldable pub pixelAt : ℕ → ℕ → ℕ → ℕ → ℕ → ℕ → ℕ
-pixelAt n w r c i x = n * r * (n * w) + i * (n * w) + n * c + x
+pixelAt n w c r i x = n * r * (n * w) + i * (n * w) + n * c + x
 
 unfoldable pub placedRow : ℕ → ℕ → ℕ → ℕ → List ℕ → ℕ → List ℕ → List ℕ
-placedRow n w r c block i plane = turns n (store (λ x. pixelAt n w r c i x) (λ x. getD block (n * i + x) 0)) plane
+placedRow n w c r block i plane = turns n (store (λ x. pixelAt n w c r i x) (λ x. getD block (n * i + x) 0)) plane
 
 unfoldable pub placed : ℕ → ℕ → ℕ → ℕ → List ℕ → List ℕ → List ℕ
-placed n w r c block plane = turns n (placedRow n w r c block) plane
+placed n w c r block plane = turns n (placedRow n w c r block) plane

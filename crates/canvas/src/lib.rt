@@ -2,11 +2,10 @@
 ghost use mathlib.Core.Path.{_≡_};
 ghost use Prim.Native.Nat.{_+_, _*_, _≤_};
 ghost use lib.ListN.{length, getD};
-ghost use Rattle.lists.specs.Lists.{turns, store};
-ghost use Rattle.slices.specs.Copies.{_beside_};
+ghost use Rattle.lists.specs.Lists.{turns, store, _beside_};
 ghost use Rattle.picture_limits.specs.Place.{Placed};
 ghost use Rattle.canvas.specs.Placed.{placed};
-ghost use Rattle.canvas.specs.Drawn.{toldInto};
+ghost use Rattle.canvas.specs.Into.{toldInto};
 use macroblock::reply;
 use reconstruct::ReconstructedMb;
 
@@ -26,38 +25,44 @@ fn place_row(plane: &mut [u8], at: usize, block: &[u8], from: usize, n: usize)
     }
 }
 
-// A block of n rows of n, in column c and row r of a picture w macroblocks wide.
-fn place(plane: &mut [u8], n: usize, w: usize, r: usize, c: usize, block: &[u8])
-    requires { ⌜ Placed n (now plane) w r c × (length (now block) ≡ n * n) ⌝ }
-    ensures { λ _. ⌜ now (plane .exit) ≡ placed n w r c (now (block .entry)) (now (plane .entry)) ⌝ }
+// A block of n rows of n pixels in its place.
+fn place(plane: &mut [u8], n: usize, cols: usize, col: usize, row: usize, block: &[u8])
+    requires { ⌜ Placed n (now plane) cols col row × (length (now block) ≡ n * n) ⌝ }
+    ensures { λ _. ⌜ now (plane .exit) ≡ placed n cols col row (now (block .entry)) (now (plane .entry)) ⌝ }
 {
-    let stride = n * w;
+    let stride = n * cols;
     for i in 0..n {
-        place_row(plane, n * r * stride + i * stride + n * c, block, n * i, n);
+        place_row(
+            plane,
+            n * row * stride + i * stride + n * col,
+            block,
+            n * i,
+            n,
+        );
     }
 }
 
 // A macroblock's three blocks.
 fn put(
     drawn: ReconstructedMb,
-    w: usize,
-    r: usize,
-    c: usize,
+    cols: usize,
+    col: usize,
+    row: usize,
     y: &mut [u8],
     u: &mut [u8],
     v: &mut [u8],
 )
-    requires { ⌜ Placed 16 (now y) w r c × Placed 8 (now u) w r c × Placed 8 (now v) w r c ⌝ }
-    ensures { λ _. ⌜ (now (y .exit) ≡ placed 16 w r c (drawn .y) (now (y .entry)))
-        × (now (u .exit) ≡ placed 8 w r c (drawn .u) (now (u .entry)))
-        × (now (v .exit) ≡ placed 8 w r c (drawn .v) (now (v .entry))) ⌝ }
+    requires { ⌜ Placed 16 (now y) cols col row × Placed 8 (now u) cols col row × Placed 8 (now v) cols col row ⌝ }
+    ensures { λ _. ⌜ (now (y .exit) ≡ placed 16 cols col row (drawn .y) (now (y .entry)))
+        × (now (u .exit) ≡ placed 8 cols col row (drawn .u) (now (u .entry)))
+        × (now (v .exit) ≡ placed 8 cols col row (drawn .v) (now (v .entry))) ⌝ }
 {
     let y_block = drawn.y;
     let u_block = drawn.u;
     let v_block = drawn.v;
-    place(y, 16, w, r, c, &y_block);
-    place(u, 8, w, r, c, &u_block);
-    place(v, 8, w, r, c, &v_block);
+    place(y, 16, cols, col, row, &y_block);
+    place(u, 8, cols, col, row, &u_block);
+    place(v, 8, cols, col, row, &v_block);
 }
 
 // The macroblock in column `col` and row `row` of a picture of `cols` by `rows` macroblocks, from its three mode bytes, its
@@ -96,7 +101,7 @@ pub fn draw_macroblock(
             clipped: drawn.clipped,
         };
     }
-    put(drawn, cols, row, col, y, u, v);
+    put(drawn, cols, col, row, y, u, v);
     DrawnMb {
         reply: reply::DONE,
         clipped: drawn.clipped,

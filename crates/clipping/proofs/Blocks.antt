@@ -18,8 +18,9 @@ use Rattle.whole.proofs.Held.{R16, held16}
 use Rattle.rfc6386.specs.Dct.{residue, entry, idct, idctDc}
 use Rattle.rfc6386.proofs.DctBlocks.{idct-at}
 use Rattle.rfc6386.proofs.DctDc.{residue-dc, dc-only-is-full}
-use Rattle.clipping.specs.Clipped.{total, over, blockClipped, clippedAt, dcClipped, subClipped}
-use Rattle.clipping.proofs.Total.{total-turn, total-ext}
+use Rattle.clipping.specs.Clipped.{over, blockClipped, clippedAt, dcClipped, subClipped}
+use Rattle.lists.specs.Lists.{total}
+use Rattle.lists.proofs.Total.{total-turn, total-ext}
 
 -- pixel i
 abbrev pub overOf : List ℕ → List ℤ → ℕ → ℕ

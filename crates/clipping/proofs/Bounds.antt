@@ -14,8 +14,9 @@ use Rattle.macroblock.specs.declared.modes.IntraBmode.{IntraBmode}
 use Rattle.macroblock.specs.declared.neighbors.MbNeighbors.{MbNeighbors}
 use Rattle.rfc6386.specs.Dct.{residue}
 use Rattle.rfc6386.specs.Walk.{blockAt, seeded, yPrediction, uPrediction, vPrediction, startOf, subPrediction, walked}
-use Rattle.clipping.specs.Clipped.{total, over, blockClipped, clippedAt, blocksClipped, planeClipped, yWholeClipped, uClipped, vClipped, subClipped, walkedClipped, yPartsClipped}
-use Rattle.clipping.proofs.Total.{total-≤}
+use Rattle.clipping.specs.Clipped.{over, blockClipped, clippedAt, blocksClipped, planeClipped, yWholeClipped, uClipped, vClipped, subClipped, walkedClipped, yPartsClipped}
+use Rattle.lists.specs.Lists.{total}
+use Rattle.lists.proofs.Total.{total-≤}
 use Rattle.clipping.proofs.Counted.{over-≤}
 use Rattle.clipping.proofs.Skipped.{plane-skipped}
 

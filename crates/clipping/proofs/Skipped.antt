@@ -11,7 +11,7 @@ use Rattle.macroblock.specs.declared.modes.IntraBmode.{IntraBmode}
 use Rattle.macroblock.specs.declared.neighbors.MbNeighbors.{MbNeighbors}
 use Rattle.rfc6386.specs.Walk.{startOf}
 use Rattle.clipping.specs.Clipped.{planeClipped, yWholeClipped, uClipped, vClipped, subClipped, walkedClipped, yPartsClipped}
-use Rattle.clipping.proofs.Total.{total-none}
+use Rattle.lists.proofs.Total.{total-none}
 
 pub plane-skipped : (n : ℕ) (p : List ℕ) (x : ℕ → ℕ → ℤ) → planeClipped n true p x ≡ 0
 unfolding planeClipped

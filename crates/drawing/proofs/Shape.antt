@@ -7,7 +7,7 @@ use native.Mathlib.Omega.{arith}
 use lib.Dec.{eqb, lit≤}
 use lib.IntN.{ℤ}
 use lib.ListN.{length, drop, length-append}
-use Rattle.lists.specs.Lists.{pick}
+use Rattle.lists.specs.Lists.{pick, within}
 use Rattle.lists.proofs.Rows.{rows-length}
 use Rattle.macroblock.specs.Reply.{wrongLength, bPred, noSubModes, unknownByte}
 use Rattle.macroblock.specs.declared.modes.IntraYMode.{IntraYMode}
@@ -15,7 +15,7 @@ use Rattle.macroblock.specs.declared.modes.IntraUvMode.{IntraUvMode}
 use Rattle.macroblock.specs.declared.modes.IntraBmode.{IntraBmode}
 use Rattle.macroblock.specs.declared.modes.MbModes.{MbModes}
 use Rattle.macroblock.specs.declared.neighbors.MbNeighbors.{MbNeighbors}
-use Rattle.record_bytes.specs.Bytes.{within, marksKnown, recordOf}
+use Rattle.record_bytes.specs.Bytes.{marksKnown, recordOf}
 use Rattle.rfc6386.specs.Edges.{isB}
 use Rattle.rfc6386.specs.Walk.{addedBlocks, plane, yPrediction, uPrediction, vPrediction, yWhole, yParts, uPlane, vPlane, lumaOf}
 use Rattle.rfc6386.proofs.Edges.{y-length, uv-length}
@@ -130,8 +130,8 @@ module _ (luma chroma skip : ℕ) (subs : List ℕ) (there : Bool) (n : MbNeighb
       (pick-shape (modesKnown luma chroma skip) (in-shape (modesOf luma chroma skip) subs there n c) (refusal-shape unknownByte (lit≤ tt)))
       (refusal-shape wrongLength (lit≤ tt))
 
-pub bytes-shape : (luma chroma skip : ℕ) (subs : List ℕ) (there : Bool) (edges : List ℕ) (c : List ℤ)
-    → Shape (drawnBytes luma chroma skip subs there edges c)
+pub bytes-shape : (luma chroma skip : ℕ) (subs : List ℕ) (there : Bool) («record» : List ℕ) (c : List ℤ)
+    → Shape (drawnBytes luma chroma skip subs there «record» c)
 unfolding drawnBytes
-bytes-shape luma chroma skip subs there edges c =
-    pick-shape (marksKnown edges) (drawn-shape luma chroma skip subs there (recordOf edges) c) (refusal-shape unknownByte (lit≤ tt))
+bytes-shape luma chroma skip subs there «record» c =
+    pick-shape (marksKnown «record») (drawn-shape luma chroma skip subs there (recordOf «record») c) (refusal-shape unknownByte (lit≤ tt))

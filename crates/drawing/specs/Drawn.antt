@@ -7,13 +7,13 @@ use mathlib.Core.List.{List, _++_}
 use lib.Dec.{eqb, leb}
 use lib.IntN.{ℤ}
 use lib.ListN.{length, getD, drop}
-use Rattle.lists.specs.Lists.{table, pick, both}
+use Rattle.lists.specs.Lists.{table, pick, both, within}
 use Rattle.macroblock.specs.Reply.{done, wrongLength, unknownByte}
 use Rattle.macroblock.specs.declared.modes.IntraBmode.{IntraBmode}
 use Rattle.macroblock.specs.declared.modes.MbModes.{MbModes}
 use Rattle.macroblock.specs.declared.neighbors.MbNeighbors.{MbNeighbors}
-use Rattle.mode_bytes.specs.Says.{yReply, yMode, uvReply, uvMode, bMode}
-use Rattle.record_bytes.specs.Bytes.{within, marksKnown, recordOf}
+use Rattle.macroblock.specs.Says.{yReply, yMode, uvReply, uvMode, bMode}
+use Rattle.record_bytes.specs.Bytes.{marksKnown, recordOf}
 use Rattle.rfc6386.specs.Edges.{isB}
 use Rattle.reconstruct.specs.declared.ReconstructedMb.{ReconstructedMb}
 use Rattle.reconstruct.specs.Answers.{refusal, nonB, walkB}
@@ -55,5 +55,5 @@ drawn luma chroma skip subs there n coeffs =
 
 -- the macroblock whose neighbours are 81 record bytes
 unfoldable pub drawnBytes : ℕ → ℕ → ℕ → List ℕ → Bool → List ℕ → List ℤ → ReconstructedMb
-drawnBytes luma chroma skip subs there edges coeffs =
-    pick (marksKnown edges) (drawn luma chroma skip subs there (recordOf edges) coeffs) (refusal unknownByte)
+drawnBytes luma chroma skip subs there «record» coeffs =
+    pick (marksKnown «record») (drawn luma chroma skip subs there (recordOf «record») coeffs) (refusal unknownByte)

@@ -13,10 +13,10 @@ use reconstruct::ReconstructedMb;
 fn modes_known(luma: u8, chroma: u8, skip: u8) -> bool
     ensures { λ r. ⌜ r ≡ modesKnown luma chroma skip ⌝ }
 {
-    if mode_bytes::y_reply(luma) != reply::DONE {
+    if macroblock::y_reply(luma) != reply::DONE {
         return false;
     }
-    if mode_bytes::uv_reply(chroma) != reply::DONE {
+    if macroblock::uv_reply(chroma) != reply::DONE {
         return false;
     }
     skip <= 1
@@ -25,8 +25,8 @@ fn modes_known(luma: u8, chroma: u8, skip: u8) -> bool
 fn modes_of(luma: u8, chroma: u8, skip: u8) -> MbModes
     ensures { λ r. ⌜ r ≡ modesOf luma chroma skip ⌝ }
 {
-    let y = mode_bytes::y_mode(luma);
-    let uv = mode_bytes::uv_mode(chroma);
+    let y = macroblock::y_mode(luma);
+    let uv = macroblock::uv_mode(chroma);
     MbModes {
         y,
         uv,
@@ -40,7 +40,7 @@ fn sub_modes_of(bytes: [u8; 16]) -> [IntraBmode; 16]
     let first = IntraBmode::Dc;
     let mut modes = [first; 16];
     for k in 0..16 {
-        modes[k] = mode_bytes::b_mode(bytes[k]);
+        modes[k] = macroblock::b_mode(bytes[k]);
     }
     modes
 }
@@ -55,7 +55,7 @@ fn draw_b(
     requires { ⌜ 16 ≤ length (now coeffs) ⌝ }
     ensures { λ r. ⌜ r ≡ drawnB modes «sub_modes» «sub_modes_there» neighbors (now (coeffs .entry)) ⌝ }
 {
-    if !record_bytes::sixteen_within(sub_modes, 9) {
+    if !macroblock::b_modes_known(sub_modes) {
         return reconstruct::refused(reply::UNKNOWN_BYTE);
     }
     let subs = sub_modes_of(sub_modes);
@@ -126,15 +126,15 @@ pub fn draw_bytes(
     skip: u8,
     sub_modes: [u8; 16],
     sub_modes_there: bool,
-    edges: [u8; 81],
+    record: [u8; 81],
     coeffs: &[i16],
 ) -> ReconstructedMb
-    ensures { λ r. ⌜ r ≡ drawnBytes luma chroma skip «sub_modes» «sub_modes_there» edges (now (coeffs .entry)) ⌝ }
+    ensures { λ r. ⌜ r ≡ drawnBytes luma chroma skip «sub_modes» «sub_modes_there» «record» (now (coeffs .entry)) ⌝ }
 {
-    if !record_bytes::marks_known(edges) {
+    if !record_bytes::marks_known(record) {
         return reconstruct::refused(reply::UNKNOWN_BYTE);
     }
-    let neighbors = record_bytes::neighbors_of(edges);
+    let neighbors = record_bytes::neighbors_of(record);
     draw(
         luma,
         chroma,

@@ -31,7 +31,7 @@ pub record There (l : List ℕ) (k : ℕ) (at : ℕ → ℕ) (mark : Bool) (byte
   pub pixels : (i : ℕ) → i < k → getD bytes i 0 ≡ getD l (at i) 0
 
 -- the three edges that each plane has: the top-left pixel p, the row above and the left column. A row of the plane has n w pixels
-pub record Around (n : ℕ) (l : List ℕ) (w r c p : ℕ) (above left : List ℕ) (p-mark above-mark left-mark : Bool) : Type 0 where
+pub record Around (n : ℕ) (l : List ℕ) (w c r p : ℕ) (above left : List ℕ) (p-mark above-mark left-mark : Bool) : Type 0 where
   pub above-outside : r ≡ 0 → Absent n above-mark above
   pub above-beside : 0 < r → There l n (λ i. (n * r - 1) * (n * w) + n * c + i) above-mark above
   pub left-outside : c ≡ 0 → Absent n left-mark left
@@ -45,8 +45,8 @@ piece-there : (l : List ℕ) (at k : ℕ) → at + k ≤ length l → There l k 
 piece-there l at k h =
     record { on = refl; count = piece-length l at k h; inside = λ i t. omega arith; pixels = piece-at l at k h }
 
-module _ {n : ℕ} {l : List ℕ} {w r c : ℕ} (p : Placed n l w r c) where
-  left-column : 0 < c → There l n (λ i. (n * r + i) * (n * w) + (n * c - 1)) (leftThere r c) (leftOf n l w r c)
+module _ {n : ℕ} {l : List ℕ} {w c r : ℕ} (p : Placed n l w c r) where
+  left-column : 0 < c → There l n (λ i. (n * r + i) * (n * w) + (n * c - 1)) (leftThere c r) (leftOf n l w c r)
   unfolding leftOf
   left-column h =
       let f = lt-ltb 0 c h in
@@ -58,7 +58,7 @@ module _ {n : ℕ} {l : List ℕ} {w r c : ℕ} (p : Placed n l w r c) where
         pixels = λ i t. rw f (table-at n _ i 0 t ∙ ap (λ (m : ℕ). getD l m 0) (omega (arith, add-mul (n * r) i (n * w))));
       }
 
-  pub around : Around n l w r c (topLeftOf n l w r c) (aboveOf n l w r c) (leftOf n l w r c) (topLeftThere r c) (aboveThere r c) (leftThere r c)
+  pub around : Around n l w c r (topLeftOf n l w c r) (aboveOf n l w c r) (leftOf n l w c r) (topLeftThere c r) (aboveThere c r) (leftThere c r)
   unfolding topLeftOf aboveOf leftOf
   around =
       record {
@@ -72,23 +72,23 @@ module _ {n : ℕ} {l : List ℕ} {w r c : ℕ} (p : Placed n l w r c) where
       }
 
 -- ---- the four luma pixels right of the row above
-module _ (l : List ℕ) (w r c : ℕ) (right : List ℕ) where
-  pub right-outside : r ≡ 0 → Absent 4 (aboveRightThere r c) (aboveRightOf l w r c right)
+module _ (l : List ℕ) (w c r : ℕ) (right : List ℕ) where
+  pub right-outside : r ≡ 0 → Absent 4 (aboveRightThere c r) (aboveRightOf l w c r right)
   unfolding aboveRightOf
   right-outside z = let f = le-ltb 0 r (omega arith) in record { off = f; zeros = rw f }
 
-  pub right-given : 0 < r → c + 1 ≡ w → (aboveRightThere r c ≡ true) × (aboveRightOf l w r c right ≡ right)
+  pub right-given : 0 < r → c + 1 ≡ w → (aboveRightThere c r ≡ true) × (aboveRightOf l w c r right ≡ right)
   unfolding aboveRightOf
   right-given h z = (lt-ltb 0 r h, rw (lt-ltb 0 r h, le-ltb (c + 1) w (omega arith)))
 
-  pub right-beside : Placed 16 l w r c → 0 < r → c + 1 < w
-      → There l 4 (λ i. (16 * r - 1) * (16 * w) + (16 * c + 16) + i) (aboveRightThere r c) (aboveRightOf l w r c right)
+  pub right-beside : Placed 16 l w c r → 0 < r → c + 1 < w
+      → There l 4 (λ i. (16 * r - 1) * (16 * w) + (16 * c + 16) + i) (aboveRightThere c r) (aboveRightOf l w c r right)
   unfolding aboveRightOf
   right-beside p h g =
       let a = above p h in
       rw (lt-ltb 0 r h, lt-ltb (c + 1) w g) (piece-there l ((16 * r - 1) * (16 * w) + (16 * c + 16)) 4 (omega arith))
 
   -- elsewhere than in the last column below the first row the given pixels are not read
-  pub right-unread : (s : List ℕ) → (r ≡ 0) ⊎ (c + 1 < w) → aboveRightOf l w r c right ≡ aboveRightOf l w r c s
+  pub right-unread : (s : List ℕ) → (r ≡ 0) ⊎ (c + 1 < w) → aboveRightOf l w c r right ≡ aboveRightOf l w c r s
   unfolding aboveRightOf
   right-unread s = ⊎-elim (λ z. rw (le-ltb 0 r (omega arith))) (λ z. rw (lt-ltb (c + 1) w z))

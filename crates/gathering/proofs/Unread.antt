@@ -12,9 +12,9 @@ use Rattle.gathering.specs.Answers.{gathered}
 use Rattle.gathering.proofs.Pixels.{right-unread}
 
 module _ (y u v : List ℕ) (w c r : ℕ) (s t : List ℕ) where
-  pub neighbors-unread : (r ≡ 0) ⊎ (c + 1 < w) → neighborsOf y u v w r c s ≡ neighborsOf y u v w r c t
+  pub neighbors-unread : (r ≡ 0) ⊎ (c + 1 < w) → neighborsOf y u v w c r s ≡ neighborsOf y u v w c r t
   unfolding neighborsOf
-  neighbors-unread k = rw (right-unread y w r c s t k)
+  neighbors-unread k = rw (right-unread y w c r s t k)
 
 -- inside the picture: the first row, or a column before the last
 elsewhere : (w c r : ℕ) → c < w → (0 < r → c + 1 ≡ w → ⊥) → (r ≡ 0) ⊎ (c + 1 < w)

@@ -18,5 +18,5 @@ refused number = record { reply = number; neighbors = absent }
 unfoldable pub gathered : List ℕ → List ℕ → List ℕ → ℕ → ℕ → ℕ → ℕ → List ℕ → Gathered
 gathered y u v w h c r right =
     pick (placeOk w h c r)
-    (pick (sizesOk (length y) (length u) (length v) w h) (record { reply = done; neighbors = neighborsOf y u v w r c right }) (refused wrongLength))
+    (pick (sizesOk (length y) (length u) (length v) w h) (record { reply = done; neighbors = neighborsOf y u v w c r right }) (refused wrongLength))
     (refused outsidePicture)

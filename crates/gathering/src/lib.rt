@@ -45,7 +45,7 @@ pub fn gather(
     let sizes = sizes_ok(y.len(), u.len(), v.len(), cols, rows);
     if place {
         if sizes {
-            let neighbors = beside(y, u, v, cols, row, col, right);
+            let neighbors = beside(y, u, v, cols, col, row, right);
             return Gathered {
                 reply: reply::DONE,
                 neighbors,

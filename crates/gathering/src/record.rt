@@ -25,26 +25,26 @@ pub(crate) fn beside(
     y: &[u8],
     u: &[u8],
     v: &[u8],
-    w: usize,
-    r: usize,
-    c: usize,
+    cols: usize,
+    col: usize,
+    row: usize,
     right: [u8; 4],
 ) -> MbNeighbors
-    requires { ⌜ Placed 16 (now y) w r c × Placed 8 (now u) w r c × Placed 8 (now v) w r c ⌝ }
-    ensures { λ n. ⌜ n ≡ neighborsOf (now (y .entry)) (now (u .entry)) (now (v .entry)) w r c right ⌝ }
+    requires { ⌜ Placed 16 (now y) cols col row × Placed 8 (now u) cols col row × Placed 8 (now v) cols col row ⌝ }
+    ensures { λ n. ⌜ n ≡ neighborsOf (now (y .entry)) (now (u .entry)) (now (v .entry)) cols col row right ⌝ }
 {
-    let ey = luma_edges(y, w, r, c, right);
+    let ey = luma_edges(y, cols, col, row, right);
     let y_above = ey.above;
     let y_above_right = ey.right;
     let y_left = ey.left;
-    let eu = chroma_edges(u, w, r, c);
+    let eu = chroma_edges(u, cols, col, row);
     let u_above = eu.above;
     let u_left = eu.left;
-    let ev = chroma_edges(v, w, r, c);
+    let ev = chroma_edges(v, cols, col, row);
     let v_above = ev.above;
     let v_left = ev.left;
-    let above = 0 < r;
-    let left = 0 < c;
+    let above = 0 < row;
+    let left = 0 < col;
     MbNeighbors {
         y_topleft: ey.topleft,
         y_topleft_there: above,
@@ -69,17 +69,17 @@ pub(crate) fn beside(
     }
 }
 
-fn luma_edges(plane: &[u8], w: usize, r: usize, c: usize, given: [u8; 4]) -> Luma
-    requires { ⌜ Placed 16 (now plane) w r c ⌝ }
+fn luma_edges(plane: &[u8], cols: usize, col: usize, row: usize, given: [u8; 4]) -> Luma
+    requires { ⌜ Placed 16 (now plane) cols col row ⌝ }
     ensures { λ e. ⌜
-        Edges 16 (now (plane .entry)) w r c (e .topleft) (e .above) (e .left) × (e .right ≡ aboveRightOf (now (plane .entry)) w r c given)
+        Edges 16 (now (plane .entry)) cols col row (e .topleft) (e .above) (e .left) × (e .right ≡ aboveRightOf (now (plane .entry)) cols col row given)
         ⌝ }
 {
     let mut above = [0u8; 16];
     let mut left = [0u8; 16];
-    let topleft = plane_edges(&mut above, &mut left, plane, 16, w, r, c);
+    let topleft = plane_edges(&mut above, &mut left, plane, 16, cols, col, row);
     let mut right = [0u8; 4];
-    above_right(&mut right, plane, w, r, c, &given);
+    above_right(&mut right, plane, cols, col, row, &given);
     Luma {
         topleft,
         above,
@@ -88,13 +88,13 @@ fn luma_edges(plane: &[u8], w: usize, r: usize, c: usize, given: [u8; 4]) -> Lum
     }
 }
 
-fn chroma_edges(plane: &[u8], w: usize, r: usize, c: usize) -> Chroma
-    requires { ⌜ Placed 8 (now plane) w r c ⌝ }
-    ensures { λ e. ⌜ Edges 8 (now (plane .entry)) w r c (e .topleft) (e .above) (e .left) ⌝ }
+fn chroma_edges(plane: &[u8], cols: usize, col: usize, row: usize) -> Chroma
+    requires { ⌜ Placed 8 (now plane) cols col row ⌝ }
+    ensures { λ e. ⌜ Edges 8 (now (plane .entry)) cols col row (e .topleft) (e .above) (e .left) ⌝ }
 {
     let mut above = [0u8; 8];
     let mut left = [0u8; 8];
-    let topleft = plane_edges(&mut above, &mut left, plane, 8, w, r, c);
+    let topleft = plane_edges(&mut above, &mut left, plane, 8, cols, col, row);
     Chroma {
         topleft,
         above,

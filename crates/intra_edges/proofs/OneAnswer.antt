@@ -1,5 +1,7 @@
 -- Each promise of `intra_edges` admits one answer only. Assumes nothing.
 use Rattle.lists.proofs.Answer.{OneAnswer, same}
+use Rattle.intra_edges.proofs.pixel_or.Reads as pixel-or
+use Rattle.intra_edges.proofs.pixel_or.Kinds as pixel-or-k
 use Rattle.intra_edges.proofs.predict_y16x16_dc.Reads as y16x16-dc
 use Rattle.intra_edges.proofs.predict_y16x16_dc.Kinds as y16x16-dc-k
 use Rattle.intra_edges.proofs.predict_y16x16_v.Reads as y16x16-v
@@ -20,6 +22,9 @@ use Rattle.intra_edges.proofs.predict_b4x4_dc.Reads as b4x4-dc
 use Rattle.intra_edges.proofs.predict_b4x4_dc.Kinds as b4x4-dc-k
 use Rattle.intra_edges.proofs.predict_b4x4_tm.Reads as b4x4-tm
 use Rattle.intra_edges.proofs.predict_b4x4_tm.Kinds as b4x4-tm-k
+
+pub pixel-or-one : OneAnswer 0 pixel-or-k.ps pixel-or-k.r pixel-or.Post
+pixel-or-one κs a x y s t = same
 
 pub y16x16-dc-one : OneAnswer 0 y16x16-dc-k.ps y16x16-dc-k.r y16x16-dc.Post
 y16x16-dc-one κs a x y s t = same

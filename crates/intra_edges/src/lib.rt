@@ -16,7 +16,7 @@ use block::Way;
 use macroblock::MbNeighbors;
 ghost use mathlib.Core.Path.{_≡_};
 ghost use mathlib.Core.Bool.{true};
-ghost use Rattle.rfc6386.specs.Edges.{dcBlock, vBlock, hBlock, tmBlock};
+ghost use Rattle.rfc6386.specs.Edges.{pixelOr, dcBlock, vBlock, hBlock, tmBlock};
 
 // What stands for each pixel of an absent row above: 127.
 pub const DEFAULT_ABOVE_PIXEL: u8 = MbNeighbors::ABOVE;
@@ -26,6 +26,13 @@ pub const DEFAULT_LEFT_PIXEL: u8 = MbNeighbors::LEFT;
 
 // DC's pixel where both edges are absent. It stands for no absent pixel: an absent top-left is 127.
 pub const DEFAULT_TOPLEFT_DC: u8 = 128;
+
+// One pixel, or `other` where it is absent.
+pub fn pixel_or(other: u8, pixel: u8, there: bool) -> u8
+    ensures { λ r. ⌜ r ≡ pixelOr other pixel there ⌝ }
+{
+    if there { pixel } else { other }
+}
 
 // ---- 16x16 luma
 

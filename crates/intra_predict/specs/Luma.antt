@@ -12,5 +12,5 @@ abbrev pub donePixels : List ℕ → LumaPrediction
 donePixels pixels = record { reply = reply.done; pixels = pixels }
 
 unfoldable pub predictedY : IntraYMode → List ℕ → Bool → List ℕ → Bool → ℕ → LumaPrediction
-predictedY mode above at left lt p =
-    record { reply = pick (isB mode) reply.bPred reply.done; pixels = predictY mode above at left lt p }
+predictedY mode above aboveThere left leftThere p =
+    record { reply = pick (isB mode) reply.bPred reply.done; pixels = predictY mode above aboveThere left leftThere p }

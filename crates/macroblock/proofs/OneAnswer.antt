@@ -28,6 +28,22 @@ use Rattle.macroblock.proofs.numbers.uv_mode_of.Reads as uv-mode-of
 use Rattle.macroblock.proofs.numbers.uv_mode_of.Kinds as uv-mode-of-k
 use Rattle.macroblock.proofs.numbers.b_mode_of.Reads as b-mode-of
 use Rattle.macroblock.proofs.numbers.b_mode_of.Kinds as b-mode-of-k
+use Rattle.macroblock.proofs.bytes.y_mode.Reads as y-mode
+use Rattle.macroblock.proofs.bytes.y_mode.Kinds as y-mode-k
+use Rattle.macroblock.proofs.bytes.y_reply.Reads as y-reply
+use Rattle.macroblock.proofs.bytes.y_reply.Kinds as y-reply-k
+use Rattle.macroblock.proofs.bytes.uv_mode.Reads as uv-mode
+use Rattle.macroblock.proofs.bytes.uv_mode.Kinds as uv-mode-k
+use Rattle.macroblock.proofs.bytes.uv_reply.Reads as uv-reply
+use Rattle.macroblock.proofs.bytes.uv_reply.Kinds as uv-reply-k
+use Rattle.macroblock.proofs.bytes.b_mode.Reads as b-mode
+use Rattle.macroblock.proofs.bytes.b_mode.Kinds as b-mode-k
+use Rattle.macroblock.proofs.bytes.b_reply.Reads as b-reply
+use Rattle.macroblock.proofs.bytes.b_reply.Kinds as b-reply-k
+use Rattle.macroblock.proofs.bytes.b_modes_known.Reads as b-modes-known
+use Rattle.macroblock.proofs.bytes.b_modes_known.Kinds as b-modes-known-k
+use Rattle.macroblock.proofs.bytes.all_within.Reads as all-within
+use Rattle.macroblock.proofs.bytes.all_within.Kinds as all-within-k
 
 pub absent-one : OneAnswer 0 absent-k.ps absent-k.r absent.Post
 absent-one κs a x y s t = same
@@ -43,6 +59,30 @@ uv-mode-number-one κs a x y s t = same
 
 pub b-mode-number-one : OneAnswer 0 b-mode-number-k.ps b-mode-number-k.r b-mode-number.Post
 b-mode-number-one κs a x y s t = same
+
+pub y-mode-one : OneAnswer 0 y-mode-k.ps y-mode-k.r y-mode.Post
+y-mode-one κs a x y s t = same
+
+pub y-reply-one : OneAnswer 0 y-reply-k.ps y-reply-k.r y-reply.Post
+y-reply-one κs a x y s t = same
+
+pub uv-mode-one : OneAnswer 0 uv-mode-k.ps uv-mode-k.r uv-mode.Post
+uv-mode-one κs a x y s t = same
+
+pub uv-reply-one : OneAnswer 0 uv-reply-k.ps uv-reply-k.r uv-reply.Post
+uv-reply-one κs a x y s t = same
+
+pub b-mode-one : OneAnswer 0 b-mode-k.ps b-mode-k.r b-mode.Post
+b-mode-one κs a x y s t = same
+
+pub b-reply-one : OneAnswer 0 b-reply-k.ps b-reply-k.r b-reply.Post
+b-reply-one κs a x y s t = same
+
+pub b-modes-known-one : OneAnswer 0 b-modes-known-k.ps b-modes-known-k.r b-modes-known.Post
+b-modes-known-one κs a x y s t = same
+
+pub all-within-one : OneAnswer 1 all-within-k.ps all-within-k.r all-within.Post
+all-within-one κs a x y s t = same
 
 -- ---- a reading tells its answer: 0 stands beside the mode itself, and 0 is not 8
 reply : {A : Type 0} {u v : ℕ × A} → u ≡ v → u .0 ≡ v .0

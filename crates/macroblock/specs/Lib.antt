@@ -2,3 +2,4 @@
 pub mod Reply
 pub mod Neighbors
 pub mod Modes
+pub mod Says

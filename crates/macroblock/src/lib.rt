@@ -1,10 +1,19 @@
-// Plain data of a key-frame macroblock: the prediction modes of RFC 6386 sections 8 and 11 with their numbers, the mode
-// record, the neighbour record and the numbers of the replies.
+// Plain data of a key-frame macroblock: the prediction modes of RFC 6386 sections 8 and 11 with their numbers and what a byte
+// says of them, the mode record, the neighbour record and the numbers of the replies.
+mod bytes;
 mod modes;
 mod neighbors;
 mod numbers;
 pub mod reply;
 
+pub use bytes::all_within;
+pub use bytes::b_mode;
+pub use bytes::b_modes_known;
+pub use bytes::b_reply;
+pub use bytes::uv_mode;
+pub use bytes::uv_reply;
+pub use bytes::y_mode;
+pub use bytes::y_reply;
 pub use modes::IntraBmode;
 pub use modes::IntraUvMode;
 pub use modes::IntraYMode;

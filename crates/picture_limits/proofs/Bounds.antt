@@ -21,25 +21,25 @@ use native.Mathlib.Omega.{arith}
 use lib.ListN.{length}
 use Rattle.picture_limits.specs.Place.{Placed}
 
-pub record Bounds (n : ℕ) (l : List ℕ) (w r c : ℕ) : Type 0 where
+pub record Bounds (n : ℕ) (l : List ℕ) (w c r : ℕ) : Type 0 where
   pub column : n * c + n ≤ n * w
   pub rows : n * r * (n * w) + n * (n * w) ≤ length l
   pub row : n * r ≤ n * r * (n * w)
   pub one : n * w ≤ n * (n * w)
 
 -- a row of pixels stands before the macroblock
-pub record Above (n : ℕ) (l : List ℕ) (w r c : ℕ) : Type 0 where
-  pub bounds : Bounds n l w r c
+pub record Above (n : ℕ) (l : List ℕ) (w c r : ℕ) : Type 0 where
+  pub bounds : Bounds n l w c r
   pub up : 1 ≤ n * r
   pub row : (n * r - 1) * (n * w) + n * w ≡ n * r * (n * w)
 
 -- a column of pixels stands before it
-pub record Left (n : ℕ) (l : List ℕ) (w r c : ℕ) : Type 0 where
-  pub bounds : Bounds n l w r c
+pub record Left (n : ℕ) (l : List ℕ) (w c r : ℕ) : Type 0 where
+  pub bounds : Bounds n l w c r
   pub side : 1 ≤ n * c
 
-module _ {n : ℕ} {l : List ℕ} {w r c : ℕ} (p : Placed n l w r c) where
-  pub bounds : Bounds n l w r c
+module _ {n : ℕ} {l : List ℕ} {w c r : ℕ} (p : Placed n l w c r) where
+  pub bounds : Bounds n l w c r
   bounds =
       let s : 1 ≤ n = p .some in
       let a : n * c + n ≤ n * w = rw (← mul-suc) (mul-le-mul-left n (p .across)) in
@@ -49,17 +49,17 @@ module _ {n : ℕ} {l : List ℕ} {w r c : ℕ} (p : Placed n l w r c) where
       let e : 1 * (n * w) ≤ n * (n * w) = mul-le-mul-right (n * w) s in
       record { column = a; rows = b; row = omega (arith, mul-one (n * r)); one = omega (arith, one-mul (n * w)) }
 
-  pub above : 0 < r → Above n l w r c
+  pub above : 0 < r → Above n l w c r
   above h =
       let m : 1 * 1 ≤ n * r = mul-le-mul (p .some) h in
       let e : suc (n * r - 1) ≡ n * r = omega arith in
       record { bounds = bounds; up = omega arith; row = rw (← suc-mul, e) }
 
-  pub left : 0 < c → Left n l w r c
+  pub left : 0 < c → Left n l w c r
   left h = let m : 1 * 1 ≤ n * c = mul-le-mul (p .some) h in record { bounds = bounds; side = omega arith }
 
 -- n rows a macroblock, n n w h pixels in all
-pub placed : (n : ℕ) (l : List ℕ) (w h c r : ℕ) → 1 ≤ n → c < w → r < h → length l ≡ n * n * (w * h) → Placed n l w r c
+pub placed : (n : ℕ) (l : List ℕ) (w h c r : ℕ) → 1 ≤ n → c < w → r < h → length l ≡ n * n * (w * h) → Placed n l w c r
 placed n l w h c r s a d e =
     let k : n * suc r ≤ n * h = mul-le-mul-left n d in
     let m : n * w * (n * suc r) ≤ n * w * (n * h) = mul-le-mul-left (n * w) k in

@@ -2,40 +2,47 @@
 ghost use mathlib.Core.Path.{_≡_};
 ghost use Prim.Native.Nat.{_*_};
 ghost use lib.Dec.{eqb};
-ghost use Rattle.rfc6386.specs.Picture.{placeOk, lumaOk, sizesOk};
+ghost use Rattle.rfc6386.specs.Picture.{placeOk, sizeOk, lumaOk, sizesOk};
 
 // A size of at most 1,024 macroblocks a side, and a place inside it.
-pub fn place_ok(w: usize, h: usize, c: usize, r: usize) -> bool
-    ensures { λ a. ⌜ a ≡ placeOk w h c r ⌝ }
+pub fn place_ok(cols: usize, rows: usize, col: usize, row: usize) -> bool
+    ensures { λ a. ⌜ a ≡ placeOk cols rows col row ⌝ }
 {
-    if w > 1024 {
+    if cols > 1024 {
         return false;
     }
-    if h > 1024 {
+    if rows > 1024 {
         return false;
     }
-    if c >= w {
+    if col >= cols {
         return false;
     }
-    r < h
+    row < rows
+}
+
+// Each side 1 to 1,024 macroblocks.
+pub fn size_ok(cols: usize, rows: usize) -> bool
+    ensures { λ a. ⌜ a ≡ sizeOk cols rows ⌝ }
+{
+    place_ok(cols, rows, 0, 0)
 }
 
 // Whether a luma plane of y bytes has exactly 256 bytes a macroblock. Exact for sides of any size: y says how many
 // macroblocks there are, so that no product can pass the end of a machine word.
-pub fn luma_ok(y: usize, w: usize, h: usize) -> bool
-    ensures { λ a. ⌜ a ≡ lumaOk y w h ⌝ }
+pub fn luma_ok(y: usize, cols: usize, rows: usize) -> bool
+    ensures { λ a. ⌜ a ≡ lumaOk y cols rows ⌝ }
 {
     if y % 256 != 0 {
         return false;
     }
-    is_product(y / 256, w, h)
+    is_product(y / 256, cols, rows)
 }
 
 // Whether planes of y, u and v bytes have exactly 256, 64 and 64 bytes a macroblock.
-pub fn sizes_ok(y: usize, u: usize, v: usize, w: usize, h: usize) -> bool
-    ensures { λ a. ⌜ a ≡ sizesOk y u v w h ⌝ }
+pub fn sizes_ok(y: usize, u: usize, v: usize, cols: usize, rows: usize) -> bool
+    ensures { λ a. ⌜ a ≡ sizesOk y u v cols rows ⌝ }
 {
-    if !luma_ok(y, w, h) {
+    if !luma_ok(y, cols, rows) {
         return false;
     }
     let n = y / 256;

@@ -7,7 +7,7 @@ use native.Mathlib.Omega.{arith}
 use lib.Dec.{lit<}
 use lib.IntN.{ℤ, pos}
 use lib.ListN.{length, getD}
-use Rattle.lists.specs.Lists.{turns}
+use Rattle.lists.specs.Lists.{turns, total}
 use Rattle.lists.proofs.Rows.{rows-ext, rows-flat}
 use Rattle.lists.proofs.Each.{rows-each}
 use Rattle.rfc6386.specs.Dct.{residue, idctFour}
@@ -15,8 +15,8 @@ use Rattle.rfc6386.specs.Residue.{sum}
 use Rattle.rfc6386.specs.Walk.{blockAt, seeded, addedBlocks}
 use Rattle.blocks.specs.Taken.{residuesFrom}
 use Rattle.blocks.proofs.Places.{residues-at}
-use Rattle.clipping.specs.Clipped.{total, over, blocksClipped}
-use Rattle.clipping.proofs.Total.{total-ext, total-flat}
+use Rattle.clipping.specs.Clipped.{over, blocksClipped}
+use Rattle.lists.proofs.Total.{total-ext, total-flat}
 use Rattle.planes.specs.Steps.{groupAdded, rowAdded, groupClipped, rowClipped}
 use Rattle.planes.proofs.Seeded.{rowOf, seeded-residue}
 

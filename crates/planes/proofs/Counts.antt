@@ -2,7 +2,7 @@
 use Prim.Native.Nat.{ℕ, _≤_}
 use mathlib.Core.List.{List}
 use lib.IntN.{ℤ}
-use Rattle.clipping.proofs.Total.{total-≤}
+use Rattle.lists.proofs.Total.{total-≤}
 use Rattle.clipping.proofs.Counted.{over-≤}
 use Rattle.planes.specs.Steps.{groupClipped, rowClipped}
 

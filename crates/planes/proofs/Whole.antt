@@ -5,18 +5,18 @@ use mathlib.Core.Path.{_≡_, refl, _∙_}
 use mathlib.Core.List.{List}
 use lib.IntN.{ℤ}
 use lib.ListN.{length, take}
-use Rattle.lists.specs.Lists.{turns}
+use Rattle.lists.specs.Lists.{turns, total}
 use Rattle.rfc6386.specs.Wht.{iwht}
 use Rattle.rfc6386.specs.Dct.{idctFour}
 use Rattle.macroblock.specs.declared.modes.IntraYMode.{IntraYMode}
 use Rattle.macroblock.specs.declared.neighbors.MbNeighbors.{MbNeighbors}
 use Rattle.rfc6386.specs.Walk.{blockAt, seeded, plane, yPrediction, yWhole}
-use Rattle.clipping.specs.Clipped.{total, planeClipped, yWholeClipped}
+use Rattle.clipping.specs.Clipped.{planeClipped, yWholeClipped}
 use Rattle.blocks.specs.Taken.{residuesFrom}
 use Rattle.planes.specs.declared.luma.LumaPlane.{LumaPlane}
 use Rattle.planes.specs.declared.chroma.ChromaPlane.{ChromaPlane}
 use Rattle.planes.specs.Steps.{seededFour, groupAdded, groupClipped, rowAdded, rowClipped}
-use Rattle.planes.specs.Drawn.{lumaCoded, chromaOf, yDrawn}
+use Rattle.planes.specs.Planes.{lumaCoded, chromaOf, yDrawn}
 use Rattle.planes.proofs.Added.{luma-added, luma-clipped, chroma-added, chroma-clipped}
 
 luma-of : (p : List ℕ) (coeffs : List ℤ) (px : List ℕ) (n : ℕ) → px ≡ plane 16 false p (seeded coeffs) → n ≡ planeClipped 16 false p (seeded coeffs)

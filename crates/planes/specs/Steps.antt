@@ -3,9 +3,9 @@ use Prim.Native.Nat.{ℕ, _+_, _*_, _/_, _%_}
 use mathlib.Core.List.{List}
 use lib.IntN.{ℤ, pos}
 use lib.ListN.{getD, set}
-use Rattle.lists.specs.Lists.{turns, store}
+use Rattle.lists.specs.Lists.{turns, store, total}
 use Rattle.rfc6386.specs.Residue.{sum}
-use Rattle.clipping.specs.Clipped.{total, over}
+use Rattle.clipping.specs.Clipped.{over}
 use Rattle.blocks.specs.Taken.{taken}
 
 -- the four blocks of luma block row i with their DCs

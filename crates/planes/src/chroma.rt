@@ -8,10 +8,9 @@
 //                          2 2 3 3
 ghost use mathlib.Core.Path.{_≡_};
 ghost use Prim.Native.Nat.{_<_};
-ghost use Rattle.lists.specs.Lists.{turns};
-ghost use Rattle.clipping.specs.Clipped.{total};
+ghost use Rattle.lists.specs.Lists.{turns, total};
 ghost use Rattle.planes.specs.Steps.{rowAdded, rowClipped};
-ghost use Rattle.planes.specs.Drawn.{chromaOf, uDrawn, vDrawn};
+ghost use Rattle.planes.specs.Planes.{chromaOf, uDrawn, vDrawn};
 use macroblock::IntraUvMode;
 use macroblock::MbNeighbors;
 
@@ -93,7 +92,7 @@ pub fn u_plane(
 {
     let above = neighbors.u_above;
     let left = neighbors.u_left;
-    let p = blocks::pixel_or(
+    let p = intra_edges::pixel_or(
         MbNeighbors::ABOVE,
         neighbors.u_topleft,
         neighbors.u_topleft_there,
@@ -121,7 +120,7 @@ pub fn v_plane(
 {
     let above = neighbors.v_above;
     let left = neighbors.v_left;
-    let p = blocks::pixel_or(
+    let p = intra_edges::pixel_or(
         MbNeighbors::ABOVE,
         neighbors.v_topleft,
         neighbors.v_topleft_there,

@@ -6,7 +6,7 @@ ghost use Rattle.rfc6386.specs.Wht.{iwht};
 ghost use Rattle.rfc6386.specs.Dct.{idctFour};
 ghost use Rattle.rfc6386.specs.Walk.{yPrediction};
 ghost use Rattle.planes.specs.Steps.{seededFour, groupAdded, groupClipped};
-ghost use Rattle.planes.specs.Drawn.{lumaCoded, yDrawn};
+ghost use Rattle.planes.specs.Planes.{lumaCoded, yDrawn};
 use macroblock::IntraYMode;
 use macroblock::MbNeighbors;
 
@@ -21,26 +21,21 @@ fn predicted(mode: IntraYMode, neighbors: MbNeighbors) -> [u8; 256]
     ensures { λ r. ⌜ r ≡ yPrediction mode neighbors ⌝ }
 {
     let above = neighbors.y_above;
-    let above_there = neighbors.y_above_there;
     let left = neighbors.y_left;
-    let left_there = neighbors.y_left_there;
-    match mode {
-        IntraYMode::Dc => intra_edges::predict_y16x16_dc(above, above_there, left, left_there),
-        IntraYMode::V => intra_edges::predict_y16x16_v(above, above_there),
-        IntraYMode::H => intra_edges::predict_y16x16_h(left, left_there),
-        IntraYMode::Tm => intra_edges::predict_y16x16_tm(
-            above,
-            above_there,
-            left,
-            left_there,
-            blocks::pixel_or(
-                MbNeighbors::ABOVE,
-                neighbors.y_topleft,
-                neighbors.y_topleft_there,
-            ),
-        ),
-        IntraYMode::B => [0u8; 256],
-    }
+    let p = intra_edges::pixel_or(
+        MbNeighbors::ABOVE,
+        neighbors.y_topleft,
+        neighbors.y_topleft_there,
+    );
+    let prediction = intra_predict::predict_y16x16(
+        mode,
+        above,
+        neighbors.y_above_there,
+        left,
+        neighbors.y_left_there,
+        p,
+    );
+    prediction.pixels
 }
 
 // The sixteen DCs: the inverse WHT of the Y2 block.

@@ -16,7 +16,7 @@ use Rattle.rfc6386.proofs.Absent.{SameEdges, yPrediction-same, uPrediction-same
 use Rattle.rfc6386.proofs.Unused.{SameButDc, seeded-same}
 use Rattle.rfc6386.proofs.DctBlocks.{residue-ext}
 use Rattle.clipping.specs.Clipped.{over, blocksClipped, planeClipped, yWholeClipped, uClipped, vClipped, yPartsClipped}
-use Rattle.clipping.proofs.Total.{total-ext}
+use Rattle.lists.proofs.Total.{total-ext}
 
 -- ---- the bytes of an absent edge
 module _ {m n : MbNeighbors} (e : SameEdges m n) (skip : Bool) (c : List ℤ) where

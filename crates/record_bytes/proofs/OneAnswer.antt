@@ -2,8 +2,6 @@
 use Rattle.lists.proofs.Answer.{OneAnswer, same}
 use Rattle.record_bytes.proofs.marks_known.Reads as marks-known
 use Rattle.record_bytes.proofs.marks_known.Kinds as marks-known-k
-use Rattle.record_bytes.proofs.sixteen_within.Reads as sixteen-within
-use Rattle.record_bytes.proofs.sixteen_within.Kinds as sixteen-within-k
 use Rattle.record_bytes.proofs.neighbors_of.Reads as neighbors-of
 use Rattle.record_bytes.proofs.neighbors_of.Kinds as neighbors-of-k
 use Rattle.record_bytes.proofs.bytes_of.Reads as bytes-of
@@ -11,9 +9,6 @@ use Rattle.record_bytes.proofs.bytes_of.Kinds as bytes-of-k
 
 pub marks-known-one : OneAnswer 0 marks-known-k.ps marks-known-k.r marks-known.Post
 marks-known-one κs a x y s t = same
-
-pub sixteen-within-one : OneAnswer 0 sixteen-within-k.ps sixteen-within-k.r sixteen-within.Post
-sixteen-within-one κs a x y s t = same
 
 pub neighbors-of-one : OneAnswer 0 neighbors-of-k.ps neighbors-of-k.r neighbors-of.Post
 neighbors-of-one κs a x y s t = same

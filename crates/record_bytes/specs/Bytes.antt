@@ -5,12 +5,12 @@
 --
 --        at      10   11..26   27..30         31..46   47   48..55  56..63   64   65..72  73..80
 --        pixels  Y tl above    above-right    left     U tl above   left     V tl above   left
-use Prim.Native.Nat.{ℕ, zero, suc, _+_}
-use mathlib.Core.Bool.{Bool, true}
+use Prim.Native.Nat.{ℕ, _+_}
+use mathlib.Core.Bool.{Bool}
 use mathlib.Core.List.{List, [], _∷_, _++_}
-use lib.Dec.{leb, eqb}
+use lib.Dec.{eqb}
 use lib.ListN.{getD}
-use Rattle.lists.specs.Lists.{table, pick, both}
+use Rattle.lists.specs.Lists.{table, pick, within}
 use Rattle.macroblock.specs.declared.neighbors.MbNeighbors.{MbNeighbors}
 
 -- n bytes from `at` on
@@ -20,11 +20,6 @@ part n s at = table n (λ i. getD s (at + i) 0)
 -- a mark is there where its byte is 1
 abbrev pub marked : List ℕ → ℕ → Bool
 marked s k = eqb (getD s k 0) 1
-
--- the first n bytes of s are at most m
-unfoldable pub within : ℕ → ℕ → List ℕ → Bool
-within m zero s = true
-within m (suc k) s = both (leb (getD s k 0) m) (within m k s)
 
 -- every mark is 0 or 1
 unfoldable pub marksKnown : List ℕ → Bool

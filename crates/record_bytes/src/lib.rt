@@ -3,36 +3,15 @@
 ghost use mathlib.Core.Path.{_≡_};
 ghost use Prim.Native.Nat.{_+_, _<_, _≤_};
 ghost use lib.ListN.{length};
-ghost use Rattle.record_bytes.specs.Bytes.{part, marked, within, marksKnown, recordOf, markOf, bytesOf};
+ghost use Rattle.record_bytes.specs.Bytes.{part, marked, marksKnown, recordOf, markOf, bytesOf};
 ghost use Rattle.record_bytes.specs.Steps.{lumaRead, uRead, vRead, laidAt, blank, lumaMarksLaid, chromaMarksLaid, lumaLaid, chromaLaid};
 use macroblock::MbNeighbors;
-
-// Whether the first `n` bytes are at most `most`.
-fn all_within(s: &[u8], n: usize, most: u8) -> bool
-    requires { ⌜ n ≤ length (now s) ⌝ }
-    ensures { λ r. ⌜ r ≡ within most n (now (s .entry)) ⌝ }
-{
-    let mut known = true;
-    for k in 0..n {
-        if s[k] > most {
-            known = false;
-        }
-    }
-    known
-}
 
 // Whether every mark is 0 or 1.
 pub fn marks_known(bytes: [u8; 81]) -> bool
     ensures { λ r. ⌜ r ≡ marksKnown bytes ⌝ }
 {
-    all_within(&bytes, 10, 1)
-}
-
-// Whether every one of sixteen bytes is at most `most`.
-pub fn sixteen_within(bytes: [u8; 16], most: u8) -> bool
-    ensures { λ r. ⌜ r ≡ within most 16 bytes ⌝ }
-{
-    all_within(&bytes, 16, most)
+    macroblock::all_within(&bytes[0..10], 1)
 }
 
 // The bytes of `s` from `at` on, as many as `to` has.

@@ -41,11 +41,11 @@ fn shorts_read(function: usize) -> usize {
 // A function that writes shorts, of slices as long as a record says.
 fn in_shorts(function: usize, read: &[i16], out: &mut [i16]) -> u32 {
     match function {
-        1 => transform_slices::y1_factors(0, 0, out),
-        2 => transform_slices::dequant_block(out, 1, 1),
-        3 => transform_slices::inverse_wht(read, out),
-        4 => transform_slices::inverse_wht_dc_only(0, out),
-        5 => transform_slices::inverse_dct(read, out),
+        1 => zopredil::transforms::zopredil_y1_factors(0, 0, out),
+        2 => zopredil::transforms::zopredil_dequant_block(out, 1, 1),
+        3 => zopredil::transforms::zopredil_inverse_wht(read, out),
+        4 => zopredil::transforms::zopredil_inverse_wht_dc_only(0, out),
+        5 => zopredil::transforms::zopredil_inverse_dct(read, out),
         _ => NO_REPLY,
     }
 }
@@ -63,14 +63,14 @@ fn in_bytes(
 ) -> u32 {
     let mut clipped = [0u64; 1];
     match function {
-        6 => transform_slices::inverse_dct_add_into(read, out, 4, 0, 0, &mut clipped),
-        7 => transform_slices::add_residue(a, read, out),
-        8 => predict_slices::predict_y16x16(0, a, b, 0, out),
-        9 => predict_slices::predict_uv8x8(0, a, b, 0, out),
-        10 => predict_slices::predict_b4x4(0, a, b, 0, out),
-        11 => macroblock_slices::macroblock(a, b, c, read, out, &mut clipped),
-        12 => gather_bytes::gather_bytes(a, b, c, 1, 1, 0, 0, d, out),
-        13 => right_pixels::right_pixels_into(a, 1, 2, 1, out),
+        6 => zopredil::transforms::zopredil_inverse_dct_add_into(read, out, 4, 0, 0, &mut clipped),
+        7 => zopredil::transforms::zopredil_add_residue(a, read, out),
+        8 => zopredil::predictions::zopredil_predict_y16x16(0, a, b, 0, out),
+        9 => zopredil::predictions::zopredil_predict_uv8x8(0, a, b, 0, out),
+        10 => zopredil::predictions::zopredil_predict_b4x4(0, a, b, 0, out),
+        11 => zopredil::macroblocks::zopredil_macroblock(a, b, c, read, out, &mut clipped),
+        12 => zopredil::neighbours::zopredil_gather(a, b, c, 1, 1, 0, 0, d, out),
+        13 => zopredil::neighbours::zopredil_right_pixels(a, 1, 2, 1, out),
         _ => NO_REPLY,
     }
 }

@@ -12,7 +12,7 @@ use crate::numbers::shorts;
 fn draw(record: &[u8], coeffs: &[i16], out: &mut [u8]) -> u32 {
     let sub_modes = 4 + count(record, 3);
     let mut clipped = [0u64; 1];
-    macroblock_slices::macroblock(
+    zopredil::macroblocks::zopredil_macroblock(
         part(record, 0, 3),
         part(record, 4, sub_modes),
         part(record, 20, 101),

@@ -2,7 +2,6 @@
 // whose reply and output must be the record's expected bytes, and the file must end in its checksum. Prints how many
 // records of each kind agree, or the first record that does not. oracle/README.md has the format.
 mod answers;
-mod checksum;
 mod kinds;
 mod lengths;
 mod macroblocks;

@@ -6,11 +6,11 @@ use crate::numbers::part;
 use crate::numbers::size;
 
 // Gathers from the first bytes of each plane.
-fn gather_from(record: &[u8], planes: &[u8], edges: &mut [u8]) -> u32 {
+fn gather_from(record: &[u8], planes: &[u8], gathered: &mut [u8]) -> u32 {
     let y = part(planes, 0, length(record, 0));
     let u = part(planes, 1536, 1536 + length(record, 2));
     let v = part(planes, 1920, 1920 + length(record, 4));
-    gather_bytes::gather_bytes(
+    zopredil::neighbours::zopredil_gather(
         y,
         u,
         v,
@@ -19,20 +19,20 @@ fn gather_from(record: &[u8], planes: &[u8], edges: &mut [u8]) -> u32 {
         size(record, 22),
         size(record, 30),
         part(record, 38, 42),
-        edges,
+        gathered,
     )
 }
 
 pub fn gather(record: &[u8], planes: &[u8]) -> bool {
-    let mut edges = [FILL; 81];
-    let reply = gather_from(record, planes, &mut edges);
-    agree(part(record, 42, 124), reply, &edges)
+    let mut gathered = [FILL; 81];
+    let reply = gather_from(record, planes, &mut gathered);
+    agree(part(record, 42, 124), reply, &gathered)
 }
 
 pub fn right_pixels(record: &[u8], planes: &[u8]) -> bool {
     let y = part(planes, 0, length(record, 0));
     let mut out = [FILL; 4];
-    let reply = right_pixels::right_pixels_into(
+    let reply = zopredil::neighbours::zopredil_right_pixels(
         y,
         size(record, 2),
         size(record, 10),

@@ -9,7 +9,7 @@ pub fn predict_y16x16(record: &[u8]) -> bool {
     let above = 2 + count(record, 1);
     let left = 19 + count(record, 18);
     let mut out = [FILL; 256];
-    let reply = predict_slices::predict_y16x16(
+    let reply = zopredil::predictions::zopredil_predict_y16x16(
         byte(record, 0),
         part(record, 2, above),
         part(record, 19, left),
@@ -23,7 +23,7 @@ pub fn predict_uv8x8(record: &[u8]) -> bool {
     let above = 2 + count(record, 1);
     let left = 11 + count(record, 10);
     let mut out = [FILL; 64];
-    let reply = predict_slices::predict_uv8x8(
+    let reply = zopredil::predictions::zopredil_predict_uv8x8(
         byte(record, 0),
         part(record, 2, above),
         part(record, 11, left),
@@ -35,7 +35,7 @@ pub fn predict_uv8x8(record: &[u8]) -> bool {
 
 pub fn predict_b4x4(record: &[u8]) -> bool {
     let mut out = [FILL; 16];
-    let reply = predict_slices::predict_b4x4(
+    let reply = zopredil::predictions::zopredil_predict_b4x4(
         byte(record, 0),
         part(record, 1, 9),
         part(record, 9, 13),

@@ -1,7 +1,6 @@
 // How far the replay came, and what is printed of it.
-use crate::checksum;
-use crate::checksum::Checksum;
 use crate::numbers::wide;
+use checksum::Checksum;
 
 // Outcomes.
 pub const GOING: u8 = 0;

@@ -1,9 +1,9 @@
 // The sample, from its first record to its end.
-use crate::checksum::Checksum;
 use crate::kinds;
 use crate::numbers;
 use crate::report;
 use crate::report::Progress;
+use checksum::Checksum;
 
 // After kind 0: the checksum's two sums, and then nothing.
 fn end_follows(fd: i32, sum: Checksum) -> bool {

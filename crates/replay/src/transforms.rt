@@ -16,28 +16,36 @@ use crate::numbers::size;
 
 pub fn y1_factors(record: &[u8]) -> bool {
     let mut out = [FILL_SHORT; 2];
-    let reply = transform_slices::y1_factors(long(record, 0), long(record, 4), &mut out);
+    let reply = zopredil::transforms::zopredil_y1_factors(
+        long(record, 0),
+        long(record, 4),
+        &mut out,
+    );
     agree_in_shorts(part(record, 8, 13), reply, &out)
 }
 
 pub fn dequant_block(record: &[u8]) -> bool {
     let mut coeffs = [0i16; 16];
     shorts(record, 0, &mut coeffs);
-    let reply = transform_slices::dequant_block(&mut coeffs, short(record, 32), short(record, 34));
+    let reply = zopredil::transforms::zopredil_dequant_block(
+        &mut coeffs,
+        short(record, 32),
+        short(record, 34),
+    );
     agree_in_shorts(part(record, 36, 69), reply, &coeffs)
 }
 
 pub fn inverse_wht_dc_only(record: &[u8]) -> bool {
     let mut out = [FILL_SHORT; 16];
-    let reply = transform_slices::inverse_wht_dc_only(short(record, 0), &mut out);
+    let reply = zopredil::transforms::zopredil_inverse_wht_dc_only(short(record, 0), &mut out);
     agree_in_shorts(part(record, 2, 35), reply, &out)
 }
 
 fn invert(is_wht: bool, input: &[i16], out: &mut [i16]) -> u32 {
     if is_wht {
-        return transform_slices::inverse_wht(input, out);
+        return zopredil::transforms::zopredil_inverse_wht(input, out);
     }
-    transform_slices::inverse_dct(input, out)
+    zopredil::transforms::zopredil_inverse_dct(input, out)
 }
 
 // The WHT or the DCT.
@@ -59,7 +67,7 @@ pub(crate) fn add_into(record: &[u8], n: usize) -> bool
     let after = 58 + n;
     slices::copy(first_to_write(&mut plane, n), part(record, 58, after));
     let mut clipped = [0u64; 1];
-    let reply = transform_slices::inverse_dct_add_into(
+    let reply = zopredil::transforms::zopredil_inverse_dct_add_into(
         &input,
         first_to_write(&mut plane, length(record, 56)),
         size(record, 32),
@@ -79,7 +87,7 @@ pub fn add_residue(record: &[u8]) -> bool {
     shorts(record, 27, &mut residue);
     let mut out = [FILL; 24];
     let prediction = part(record, 3, 3 + count(record, 0));
-    let reply = transform_slices::add_residue(
+    let reply = zopredil::transforms::zopredil_add_residue(
         prediction,
         first_shorts(&residue, count(record, 1)),
         first_to_write(&mut out, count(record, 2)),

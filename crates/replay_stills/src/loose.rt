@@ -89,7 +89,7 @@ fn bytes_agree(
     let mut out = [FILL; 8448];
     let mut told = [FILL; 22];
     let mut count = [FILL_COUNT; 1];
-    let reply = shelf_items::shelf_bytes(
+    let reply = zopredil::macroblocks::zopredil_shelf(
         part(items, 0, 3 * n),
         part(items, 3 * n, 84 * n),
         part(items, 84 * n, 100 * n),
@@ -113,7 +113,7 @@ fn count_of(items: &[u8], coeffs: &[i16], n: usize, i: usize) -> u64
     let mut out = [FILL; 384];
     let mut told = [FILL; 1];
     let mut count = [FILL_COUNT; 1];
-    shelf_items::shelf_bytes(
+    zopredil::macroblocks::zopredil_shelf(
         part(items, 3 * i, 3 * i + 3),
         part(items, record, record + 81),
         part(items, sub_modes, sub_modes + 16),

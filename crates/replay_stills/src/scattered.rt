@@ -54,8 +54,8 @@ fn job_of(still: &[u8], k: usize, y: &[u8], u: &[u8], v: &[u8]) -> Job
     requires { ⌜ k ≤ 22 ⌝ }
 {
     let at = 24 + 3 * k;
-    let luma = mode_bytes::y_mode(byte(still, at));
-    let chroma = mode_bytes::uv_mode(byte(still, at + 1));
+    let luma = macroblock::y_mode(byte(still, at));
+    let chroma = macroblock::uv_mode(byte(still, at + 1));
     let modes = MbModes {
         y: luma,
         uv: chroma,

@@ -1,6 +1,5 @@
 // A still file of at most 22 macroblocks, and the planes beside it.
 ghost use Prim.Native.Nat.{_≤_};
-use crate::checksum;
 use crate::loose;
 use crate::numbers::part;
 use crate::numbers::part_to_write;
@@ -52,7 +51,7 @@ fn draw(
     let coefficients = 24 + 19 * n;
     let mut coeffs = [0i16; 8800];
     shorts(still, coefficients, &mut coeffs);
-    still_numbers::still_alone(
+    zopredil::stills::zopredil_still_alone(
         size(still, 16),
         size(still, 20),
         part(still, 24, sub_modes),

@@ -10,8 +10,9 @@ use lib.Seq.{getD-drop}
 use lib.Signed.{mag}
 use Rattle.lists.proofs.Parts.{tail-whole}
 use Rattle.whole.proofs.Held.{R16, held16}
-use Rattle.clipping.specs.Clipped.{total, over, clippedAt}
-use Rattle.clipping.proofs.Total.{total-turn, total-ext}
+use Rattle.clipping.specs.Clipped.{over, clippedAt}
+use Rattle.lists.specs.Lists.{total}
+use Rattle.lists.proofs.Total.{total-turn, total-ext}
 
 module _ (s : ℕ) (res : List ℤ) where
   -- pixel i of the block whose first pixel is at `at`

@@ -54,30 +54,30 @@ tmPixel above left p r c = tm (getD left r 0) (getD above c 0) p
 
 -- ---- the block
 unfoldable pub dcBlock : ℕ → List ℕ → Bool → List ℕ → Bool → List ℕ
-dcBlock n above at left lt = rows n n (λ r c. dcPixel n above at left lt)
+dcBlock n above aboveThere left leftThere = rows n n (λ r c. dcPixel n above aboveThere left leftThere)
 
 unfoldable pub vBlock : ℕ → List ℕ → Bool → List ℕ
-vBlock n above at = rows n n (vPixel (aboveOr n above at))
+vBlock n above aboveThere = rows n n (vPixel (aboveOr n above aboveThere))
 
 unfoldable pub hBlock : ℕ → List ℕ → Bool → List ℕ
-hBlock n left lt = rows n n (hPixel (leftOr n left lt))
+hBlock n left leftThere = rows n n (hPixel (leftOr n left leftThere))
 
 unfoldable pub tmBlock : ℕ → List ℕ → Bool → List ℕ → Bool → ℕ → List ℕ
-tmBlock n above at left lt p = rows n n (tmPixel (aboveOr n above at) (leftOr n left lt) p)
+tmBlock n above aboveThere left leftThere p = rows n n (tmPixel (aboveOr n above aboveThere) (leftOr n left leftThere) p)
 
 -- ---- by the mode: 8x8 chroma, and 16x16 luma. B predicts its sub-blocks one by one and has no 16x16 prediction: zero pixels stand for it
 unfoldable pub predictUv : IntraUvMode → List ℕ → Bool → List ℕ → Bool → ℕ → List ℕ
-predictUv uv.Dc above at left lt p = dcBlock 8 above at left lt
-predictUv uv.«V» above at left lt p = vBlock 8 above at
-predictUv uv.H above at left lt p = hBlock 8 left lt
-predictUv uv.Tm above at left lt p = tmBlock 8 above at left lt p
+predictUv uv.Dc above aboveThere left leftThere p = dcBlock 8 above aboveThere left leftThere
+predictUv uv.«V» above aboveThere left leftThere p = vBlock 8 above aboveThere
+predictUv uv.H above aboveThere left leftThere p = hBlock 8 left leftThere
+predictUv uv.Tm above aboveThere left leftThere p = tmBlock 8 above aboveThere left leftThere p
 
 unfoldable pub predictY : IntraYMode → List ℕ → Bool → List ℕ → Bool → ℕ → List ℕ
-predictY y.Dc above at left lt p = dcBlock 16 above at left lt
-predictY y.«V» above at left lt p = vBlock 16 above at
-predictY y.H above at left lt p = hBlock 16 left lt
-predictY y.Tm above at left lt p = tmBlock 16 above at left lt p
-predictY y.B above at left lt p = replicate 256 0
+predictY y.Dc above aboveThere left leftThere p = dcBlock 16 above aboveThere left leftThere
+predictY y.«V» above aboveThere left leftThere p = vBlock 16 above aboveThere
+predictY y.H above aboveThere left leftThere p = hBlock 16 left leftThere
+predictY y.Tm above aboveThere left leftThere p = tmBlock 16 above aboveThere left leftThere p
+predictY y.B above aboveThere left leftThere p = replicate 256 0
 
 abbrev pub isB : IntraYMode → Bool
 isB y.Dc = false

@@ -8,11 +8,11 @@ use lib.ListN.{getD, length, take, drop, replicate}
 use Rattle.lists.specs.Lists.{table, pick, both}
 use Rattle.macroblock.specs.declared.neighbors.MbNeighbors.{MbNeighbors}
 
--- ---- a row's part of a plane: given where count ≥ 1, column + count ≤ stride and row * stride + column + count ≤ length,
+-- ---- a row's part of a plane: given where count ≥ 1, column + count ≤ stride and row * stride + column + count ≤ size,
 -- in whole numbers without bound; else the empty part
 unfoldable pub given : ℕ → ℕ → ℕ → ℕ → ℕ → Bool
-given length stride row col count =
-    both (leb 1 count) (both (leb (col + count) stride) (leb (row * stride + col + count) length))
+given size stride row col count =
+    both (leb 1 count) (both (leb (col + count) stride) (leb (row * stride + col + count) size))
 
 unfoldable pub rowPart : List ℕ → ℕ → ℕ → ℕ → ℕ → List ℕ
 rowPart l stride row col count =
@@ -22,64 +22,67 @@ rowPart l stride row col count =
 -- such an edge is absent and its bytes are 0. Below the first row the top-left pixel of the first column is there all the same: the
 -- reference decoder's frame has a border of 129 left of the picture, and of 127 above it, the corner with it
 abbrev pub aboveThere : ℕ → ℕ → Bool
-aboveThere r c = ltb 0 r
+aboveThere c r = ltb 0 r
 
 abbrev pub leftThere : ℕ → ℕ → Bool
-leftThere r c = ltb 0 c
+leftThere c r = ltb 0 c
 
 abbrev pub topLeftThere : ℕ → ℕ → Bool
-topLeftThere r c = ltb 0 r
+topLeftThere c r = ltb 0 r
 
 abbrev pub aboveRightThere : ℕ → ℕ → Bool
-aboveRightThere r c = ltb 0 r
+aboveRightThere c r = ltb 0 r
 
 -- the n pixels of row n r - 1 from column n c on
 unfoldable pub aboveOf : ℕ → List ℕ → ℕ → ℕ → ℕ → List ℕ
-aboveOf n l w r c = pick (aboveThere r c) (take n (drop ((n * r - 1) * (n * w) + n * c) l)) (replicate n 0)
+aboveOf n l w c r = pick (aboveThere c r) (take n (drop ((n * r - 1) * (n * w) + n * c) l)) (replicate n 0)
 
 -- the n pixels of column n c - 1 from row n r on
 unfoldable pub leftOf : ℕ → List ℕ → ℕ → ℕ → ℕ → List ℕ
-leftOf n l w r c =
-    pick (leftThere r c) (table n (λ i. getD l (n * r * (n * w) + (n * c - 1) + i * (n * w)) 0)) (replicate n 0)
+leftOf n l w c r =
+    pick (leftThere c r) (table n (λ i. getD l (n * r * (n * w) + (n * c - 1) + i * (n * w)) 0)) (replicate n 0)
 
 -- the pixel of row n r - 1 and column n c - 1, or the border's
 unfoldable pub topLeftOf : ℕ → List ℕ → ℕ → ℕ → ℕ → ℕ
-topLeftOf n l w r c = pick (topLeftThere r c) (pick (leftThere r c) (getD l ((n * r - 1) * (n * w) + (n * c - 1)) 0) 129) 0
+topLeftOf n l w c r = pick (topLeftThere c r) (pick (leftThere c r) (getD l ((n * r - 1) * (n * w) + (n * c - 1)) 0) 129) 0
 
 -- the four luma pixels right of the row above; in the last column they are outside the picture, and given
 unfoldable pub aboveRightOf : List ℕ → ℕ → ℕ → ℕ → List ℕ → List ℕ
-aboveRightOf l w r c right =
-    pick (aboveRightThere r c) (pick (ltb (c + 1) w) (take 4 (drop ((16 * r - 1) * (16 * w) + (16 * c + 16)) l)) right) (replicate 4 0)
+aboveRightOf l w c r right =
+    pick (aboveRightThere c r) (pick (ltb (c + 1) w) (take 4 (drop ((16 * r - 1) * (16 * w) + (16 * c + 16)) l)) right) (replicate 4 0)
 
 -- ---- the record; `right` is read in the last column below the first row alone
 unfoldable pub neighborsOf : List ℕ → List ℕ → List ℕ → ℕ → ℕ → ℕ → List ℕ → MbNeighbors
-neighborsOf y u v w r c right =
+neighborsOf y u v w c r right =
     record {
-      «y_topleft» = topLeftOf 16 y w r c;
-      «y_topleft_there» = topLeftThere r c;
-      «y_above» = aboveOf 16 y w r c;
-      «y_above_there» = aboveThere r c;
-      «y_above_right» = aboveRightOf y w r c right;
-      «y_above_right_there» = aboveRightThere r c;
-      «y_left» = leftOf 16 y w r c;
-      «y_left_there» = leftThere r c;
-      «u_topleft» = topLeftOf 8 u w r c;
-      «u_topleft_there» = topLeftThere r c;
-      «u_above» = aboveOf 8 u w r c;
-      «u_above_there» = aboveThere r c;
-      «u_left» = leftOf 8 u w r c;
-      «u_left_there» = leftThere r c;
-      «v_topleft» = topLeftOf 8 v w r c;
-      «v_topleft_there» = topLeftThere r c;
-      «v_above» = aboveOf 8 v w r c;
-      «v_above_there» = aboveThere r c;
-      «v_left» = leftOf 8 v w r c;
-      «v_left_there» = leftThere r c;
+      «y_topleft» = topLeftOf 16 y w c r;
+      «y_topleft_there» = topLeftThere c r;
+      «y_above» = aboveOf 16 y w c r;
+      «y_above_there» = aboveThere c r;
+      «y_above_right» = aboveRightOf y w c r right;
+      «y_above_right_there» = aboveRightThere c r;
+      «y_left» = leftOf 16 y w c r;
+      «y_left_there» = leftThere c r;
+      «u_topleft» = topLeftOf 8 u w c r;
+      «u_topleft_there» = topLeftThere c r;
+      «u_above» = aboveOf 8 u w c r;
+      «u_above_there» = aboveThere c r;
+      «u_left» = leftOf 8 u w c r;
+      «u_left_there» = leftThere c r;
+      «v_topleft» = topLeftOf 8 v w c r;
+      «v_topleft_there» = topLeftThere c r;
+      «v_above» = aboveOf 8 v w c r;
+      «v_above_there» = aboveThere c r;
+      «v_left» = leftOf 8 v w c r;
+      «v_left_there» = leftThere c r;
     }
 
 -- ---- the limits: each side 1 to 1,024, the place inside; the planes exactly 256, 64 and 64 bytes a macroblock
 unfoldable pub placeOk : ℕ → ℕ → ℕ → ℕ → Bool
 placeOk w h c r = both (leb w 1024) (both (leb h 1024) (both (ltb c w) (ltb r h)))
+
+unfoldable pub sizeOk : ℕ → ℕ → Bool
+sizeOk w h = placeOk w h 0 0
 
 abbrev pub lumaOk : ℕ → ℕ → ℕ → Bool
 lumaOk y w h = eqb y (256 * (w * h))

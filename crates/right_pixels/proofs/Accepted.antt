@@ -39,7 +39,7 @@ module _ (w h r : ℕ) where
   row-false k = same-test (rowOk w h r) false (λ t. let a = row-says (T-true _ t) in k (a .0) (a .1)) (λ t. absurd t)
 
   -- the last macroblock's row lies in an accepted plane
-  pub row-placed : (y : List ℕ) → rowOk w h r ≡ true → lumaOk (length y) w h ≡ true → Placed 16 y w r 0 × (1 ≤ r)
+  pub row-placed : (y : List ℕ) → rowOk w h r ≡ true → lumaOk (length y) w h ≡ true → Placed 16 y w 0 r × (1 ≤ r)
   row-placed y e f =
       let a = row-says e in
       (placed 16 y w h 0 r (omega arith) (a .1 .column) (a .1 .row) (eqb-true _ _ f), a .0)
@@ -51,7 +51,7 @@ pub record Ends (y : List ℕ) (w r : ℕ) : Type 0 where
   pub row : (16 * r - 1) * (16 * w) + 16 * w ≤ length y
   pub stride : 16 * w ≤ length y
 
-pub ends : (y : List ℕ) (w r : ℕ) → Placed 16 y w r 0 → 1 ≤ r → Ends y w r
+pub ends : (y : List ℕ) (w r : ℕ) → Placed 16 y w 0 r → 1 ≤ r → Ends y w r
 ends y w r p k =
     let a = above p k in
     record { some = p .across; up = omega arith; row = omega arith; stride = omega arith }

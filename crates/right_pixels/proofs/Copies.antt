@@ -16,7 +16,7 @@ use Rattle.right_pixels.specs.Answers.{lastAbove, refused, rightPixels}
 use Rattle.right_pixels.proofs.Accepted.{row-true, row-false, row-placed, ends}
 
 -- the last pixel of the row above is the last of the sixteen above the last macroblock
-pub last-of-sixteen : (y : List ℕ) (w r : ℕ) → 1 ≤ w → 1 ≤ r → getD (aboveOf 16 y w r (w - 1)) 15 0 ≡ lastAbove y w r
+pub last-of-sixteen : (y : List ℕ) (w r : ℕ) → 1 ≤ w → 1 ≤ r → getD (aboveOf 16 y w (w - 1) r) 15 0 ≡ lastAbove y w r
 unfolding aboveOf lastAbove
 last-of-sixteen y w r a b =
     let k : 15 < 16 = omega arith in
@@ -33,7 +33,7 @@ module _ (y : List ℕ) (w h r : ℕ) (p : RightPixels) (e : p ≡ rightPixels y
     unfolding rightPixels
     length-refused k = e ∙ rw (row-true w h r a b, ne-eqb _ _ k)
 
-    pub copies : length y ≡ 256 * (w * h) → p ≡ record { reply = done; pixels = replicate 4 (getD (aboveOf 16 y w r (w - 1)) 15 0) }
+    pub copies : length y ≡ 256 * (w * h) → p ≡ record { reply = done; pixels = replicate 4 (getD (aboveOf 16 y w (w - 1) r) 15 0) }
     unfolding rightPixels
     copies q = e ∙ rw (row-true w h r a b, eq-eqb _ _ q, last-of-sixteen y w r (b .column) a)
 

@@ -7,7 +7,6 @@ use lib.ListN.{length, getD, replicate}
 use Rattle.lists.specs.Lists.{pick, both}
 use Rattle.macroblock.specs.Reply.{done, wrongLength, outsidePicture}
 use Rattle.rfc6386.specs.Picture.{placeOk, lumaOk}
-use Rattle.slices.specs.Copies.{sized, _beside_}
 use Rattle.right_pixels.specs.declared.RightPixels.{RightPixels}
 
 -- each side 1 to 1,024, and a row of the picture that is not its first
@@ -28,8 +27,3 @@ rightPixels y w h r =
     pick (rowOk w h r)
     (pick (lumaOk (length y) w h) (record { reply = done; pixels = replicate 4 (lastAbove y w r) }) (refused wrongLength))
     (refused outsidePicture)
-
--- the same into a slice of four; reply 1, and nothing written, for a slice of another length
-unfoldable pub rightAnswer : List ℕ → ℕ → ℕ → ℕ → List ℕ → ℕ × List ℕ
-rightAnswer y w h r out =
-    pick (sized 4 out) (rightPixels y w h r .reply beside rightPixels y w h r .pixels) (wrongLength beside out)

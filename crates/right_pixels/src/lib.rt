@@ -7,9 +7,8 @@
 //        the last macroblock of `row` |
 ghost use mathlib.Core.Path.{_≡_};
 ghost use Prim.Native.Nat.{_≤_};
-ghost use Rattle.slices.specs.Copies.{_beside_};
 ghost use Rattle.picture_limits.specs.Place.{Placed};
-ghost use Rattle.right_pixels.specs.Answers.{rowOk, lastAbove, refused, rightPixels, rightAnswer};
+ghost use Rattle.right_pixels.specs.Answers.{rowOk, lastAbove, refused, rightPixels};
 use macroblock::reply;
 use picture_limits::luma_ok;
 use picture_limits::place_ok;
@@ -41,37 +40,23 @@ pub fn right_pixels(y: &[u8], cols: usize, rows: usize, row: usize) -> RightPixe
     refusal(reply::OUTSIDE_PICTURE)
 }
 
-// The same into a lent slice of four. Refused first: a slice of another length (1, nothing written); after the other
-// refusals it holds zeros.
-pub fn right_pixels_into(y: &[u8], cols: usize, rows: usize, row: usize, out: &mut [u8]) -> u32
-    ensures { λ r. ⌜ (r beside now (out .exit)) ≡ rightAnswer (now (y .entry)) cols rows row (now (out .entry)) ⌝ }
-{
-    if out.len() != 4 {
-        return reply::WRONG_LENGTH;
-    }
-    let p = right_pixels(y, cols, rows, row);
-    let pixels = p.pixels;
-    slices::copy(out, &pixels);
-    p.reply
-}
-
 // A size of at most 1,024 macroblocks a side, and a row inside it that has one above.
-fn row_ok(w: usize, h: usize, r: usize) -> bool
-    ensures { λ a. ⌜ a ≡ rowOk w h r ⌝ }
+fn row_ok(cols: usize, rows: usize, row: usize) -> bool
+    ensures { λ a. ⌜ a ≡ rowOk cols rows row ⌝ }
 {
-    if r == 0 {
+    if row == 0 {
         return false;
     }
-    place_ok(w, h, 0, r)
+    place_ok(cols, rows, 0, row)
 }
 
-// The last pixel of row 16 r - 1.
-fn last_above(plane: &[u8], w: usize, r: usize) -> u8
-    requires { ⌜ Placed 16 (now plane) w r 0 × (1 ≤ r) ⌝ }
-    ensures { λ p. ⌜ p ≡ lastAbove (now (plane .entry)) w r ⌝ }
+// The last pixel of row 16 row - 1.
+fn last_above(plane: &[u8], cols: usize, row: usize) -> u8
+    requires { ⌜ Placed 16 (now plane) cols 0 row × (1 ≤ row) ⌝ }
+    ensures { λ p. ⌜ p ≡ lastAbove (now (plane .entry)) cols row ⌝ }
 {
-    let stride = 16 * w;
-    plane[(16 * r - 1) * stride + (stride - 1)]
+    let stride = 16 * cols;
+    plane[(16 * row - 1) * stride + (stride - 1)]
 }
 
 fn refusal(reply: u32) -> RightPixels

@@ -13,7 +13,7 @@ use prog.Memory.{Memory}
 use prog.Routine.{Routine}
 use prog.Wp.{Heap}
 use Rattle.lists.proofs.Answer.{OneAnswerIn}
-use Rattle.slices.proofs.Pairs.{same-pair}
+use Rattle.lists.proofs.Pairs.{same-pair}
 use Rattle.shelf.proofs.shelf as shelf
 use Rattle.shelf.proofs.shelf_few.Reads as few
 use Rattle.shelf.proofs.shelf_few.Kinds as few-k

@@ -11,8 +11,7 @@ use lib.Dec.{ltb}
 use lib.IntN.{ℤ}
 use lib.ListN.{length, getD, set, take}
 use lib.Seq.{length-take-le, take-all}
-use Rattle.lists.specs.Lists.{pick}
-use Rattle.slices.specs.Copies.{_beside_}
+use Rattle.lists.specs.Lists.{pick, _beside_}
 use Rattle.reconstruct.specs.declared.ReconstructedMb.{ReconstructedMb}
 use Rattle.drawing.specs.Drawn.{planesOf}
 use Rattle.shelf_items.specs.declared.Job.{Job}

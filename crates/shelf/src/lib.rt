@@ -1,7 +1,7 @@
 // A shelf of loose macroblocks from a lent list of jobs, each a mode record with its neighbour record. An item is drawn by
 // `put_job`, by itself.
 ghost use mathlib.Core.Path.{_≡_};
-ghost use Rattle.slices.specs.Copies.{_beside_};
+ghost use Rattle.lists.specs.Lists.{_beside_};
 ghost use Rattle.shelf_items.specs.Shelf.{shelfAnswer, fewAnswer};
 ghost use Rattle.shelf.specs.Few.{atMost32};
 use shelf_items::Job;

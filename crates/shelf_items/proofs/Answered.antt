@@ -5,11 +5,10 @@ use mathlib.Core.Bool.{Bool, true, false}
 use mathlib.Core.List.{List, [], _∷_}
 use native.Mathlib.Omega.{arith}
 use lib.ListN.{length, getD}
-use Rattle.lists.specs.Lists.{pick}
-use Rattle.slices.specs.Copies.{_beside_}
-use Rattle.slices.proofs.Pairs.{pair}
+use Rattle.lists.specs.Lists.{pick, _beside_}
+use Rattle.lists.proofs.Pairs.{pair}
 use Rattle.macroblock.specs.Reply.{wrongLength}
-use Rattle.clipping.proofs.Total.{total-≤}
+use Rattle.lists.proofs.Total.{total-≤}
 use Rattle.reconstruct.specs.declared.ReconstructedMb.{ReconstructedMb}
 use Rattle.drawing.proofs.Shape.{Shape}
 use Rattle.shelf_items.specs.declared.Plan.{Plan}

@@ -5,7 +5,8 @@ use mathlib.Core.Bool.{true}
 use mathlib.Core.List.{List}
 use lib.IntN.{ℤ}
 use lib.ListN.{length, getD, take, drop}
-use Rattle.slices.specs.Copies.{orZeros, itemOf}
+use Rattle.slices.specs.Copies.{orZeros}
+use Rattle.lists.specs.Lists.{itemOf}
 use Rattle.slices.proofs.Parts.{part-is, part-whole}
 use Rattle.reconstruct.specs.declared.ReconstructedMb.{ReconstructedMb}
 use Rattle.drawing.specs.Drawn.{drawnWith, drawnBytes}

@@ -3,7 +3,7 @@ use mathlib.Core.List.{List}
 use mathlib.Core.Path.{refl}
 use Prim.Native.Nat.{ℕ}
 use Rattle.lists.proofs.Answer.{OneAnswerIn, same}
-use Rattle.slices.proofs.Pairs.{pair, same-pair}
+use Rattle.lists.proofs.Pairs.{pair, same-pair}
 use Rattle.shelf_items.proofs.begin.Reads as begin
 use Rattle.shelf_items.proofs.begin.Kinds as begin-k
 use Rattle.shelf_items.proofs.put_job.Reads as put-job

@@ -6,7 +6,7 @@ use mathlib.Core.List.{List}
 use lib.Dec.{eqb}
 use lib.IntN.{ℤ}
 use lib.ListN.{length}
-use Rattle.slices.specs.Copies.{_beside_}
+use Rattle.lists.specs.Lists.{_beside_}
 use Rattle.shelf_items.specs.declared.Plan.{Plan}
 use Rattle.shelf_items.specs.Shelf.{bytesAt, bytesAnswer}
 use Rattle.shelf_items.specs.Steps.{planned, begun}

@@ -12,14 +12,13 @@ use borrow.Rule.Slice.PartMut.{putMid}
 use lib.Dec.{eqb}
 use lib.ListN.{length, getD, set, drop, length-append}
 use lib.Seq.{take-at, drop-at, drop-drop, drop-length}
-use Rattle.lists.specs.Lists.{table, turns, store, both}
+use Rattle.lists.specs.Lists.{table, turns, store, both, total, joined}
 use Rattle.lists.proofs.Table.{table-all}
 use Rattle.lists.proofs.Tests.{left-holds, right-holds}
-use Rattle.clipping.specs.Clipped.{total}
 use Rattle.reconstruct.specs.declared.ReconstructedMb.{ReconstructedMb}
 use Rattle.drawing.specs.Drawn.{planesOf}
 use Rattle.drawing.proofs.Shape.{Shape, planes-length}
-use Rattle.shelf_items.specs.Shelf.{joined, lengthsFit}
+use Rattle.shelf_items.specs.Shelf.{lengthsFit}
 
 -- ---- what the test of the lengths says
 pub record Fits (n subs coeffs out replies clipped : ℕ) : Type 0 where

@@ -2,26 +2,19 @@
 --     jobDrawn      item k of a list of jobs: what the walkers of `reconstruct` answer to its modes, record, sub-block bytes and coefficients
 --     bytesAt       item k of lists of bytes: what `drawing` answers to them
 --     shelved       what n items leave, one after another
-use Prim.Native.Nat.{ℕ, zero, suc, _+_, _*_}
+use Prim.Native.Nat.{ℕ, _+_, _*_}
 use mathlib.Core.Bool.{Bool, true, false}
-use mathlib.Core.List.{List, [], _∷_, _++_}
+use mathlib.Core.List.{List, [], _∷_}
 use lib.Dec.{eqb}
 use lib.IntN.{ℤ}
 use lib.ListN.{length, getD, take}
-use Rattle.lists.specs.Lists.{table, pick, both}
-use Rattle.slices.specs.Copies.{itemOf, _beside_}
+use Rattle.lists.specs.Lists.{table, pick, both, itemOf, _beside_, total, joined}
 use Rattle.macroblock.specs.Reply.{done, wrongLength}
 use Rattle.macroblock.specs.declared.modes.IntraYMode.the-variants as y
 use Rattle.macroblock.specs.declared.modes.IntraUvMode.the-variants as uv
-use Rattle.clipping.specs.Clipped.{total}
 use Rattle.reconstruct.specs.declared.ReconstructedMb.{ReconstructedMb}
 use Rattle.drawing.specs.Drawn.{planesOf, drawnWith, drawnBytes}
 use Rattle.shelf_items.specs.declared.Job.{Job}
-
--- f 0 .. f (n - 1), one after another
-unfoldable pub joined : ℕ → (ℕ → List ℕ) → List ℕ
-joined zero f = []
-joined (suc n) f = joined n f ++ f n
 
 -- what n items leave: reply 0; Y, U and V of each; a reply of each; and how many sums of all of them were below 0 or above 255
 unfoldable pub shelved : ℕ → (ℕ → ReconstructedMb) → ℕ × (List ℕ × (List ℕ × List ℕ))

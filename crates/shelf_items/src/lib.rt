@@ -5,7 +5,7 @@ ghost use mathlib.Core.Path.{_≡_};
 ghost use Prim.Native.Nat.{_+_, _*_, _<_, _≤_};
 ghost use lib.Dec.{eqb};
 ghost use lib.ListN.{length};
-ghost use Rattle.slices.specs.Copies.{_beside_};
+ghost use Rattle.lists.specs.Lists.{_beside_};
 ghost use Rattle.shelf_items.specs.Shelf.{lengthsFit, jobDrawn, bytesAt, bytesAnswer};
 ghost use Rattle.shelf_items.specs.Steps.{planned, begun, hasPlace, Ready, Put, PutIf};
 use macroblock::MbModes;

@@ -5,7 +5,7 @@ use mathlib.Core.Path.{_≡_, refl}
 use mathlib.Core.List.{List}
 use lib.IntN.{ℤ}
 use lib.ListN.{getD}
-use Rattle.slices.specs.Copies.{itemOf}
+use Rattle.lists.specs.Lists.{itemOf}
 use Rattle.shelf_items.specs.declared.Job.{Job}
 use Rattle.shelf_items.specs.Shelf.{noJob, jobDrawn, jobAt, bytesAt}
 

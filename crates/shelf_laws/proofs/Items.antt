@@ -7,13 +7,13 @@ use native.Mathlib.Nat.{eq-or-lt-of-le, le-of-eq, mul-suc, mul-le-mul-left}
 use native.Mathlib.Omega.{arith}
 use lib.ListN.{length, take, drop, length-drop}
 use lib.Seq.{drop-at, take-all, take-append-le, drop-append-le}
-use Rattle.slices.specs.Copies.{itemOf}
+use Rattle.lists.specs.Lists.{itemOf, joined}
 use Rattle.lists.proofs.Table.{table-ext}
-use Rattle.slices.proofs.Pairs.{pair}
-use Rattle.clipping.proofs.Total.{total-ext}
+use Rattle.lists.proofs.Pairs.{pair}
+use Rattle.lists.proofs.Total.{total-ext}
 use Rattle.reconstruct.specs.declared.ReconstructedMb.{ReconstructedMb}
 use Rattle.drawing.specs.Drawn.{planesOf}
-use Rattle.shelf_items.specs.Shelf.{joined, shelved}
+use Rattle.shelf_items.specs.Shelf.{shelved}
 use Rattle.shelf_items.proofs.Turns.{joined-length}
 
 -- ---- shelves of equal items are equal

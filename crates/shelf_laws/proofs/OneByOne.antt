@@ -1,4 +1,4 @@
--- A shelf of bytes is its macroblocks drawn one by one: what it leaves of item k is what `macroblock` of `macroblock_slices` leaves of that item's bytes,
+-- A shelf of bytes is its macroblocks drawn one by one: what it leaves of item k is what `zopredil_macroblock` leaves of that item's bytes,
 -- whatever stood in its slices, and the count is the sum of theirs. Assumes nothing.
 use Prim.Native.Nat.{ℕ, _+_, _*_, _<_, _≤_}
 use mathlib.Core.Path.{_≡_, refl, sym, ap, _∙_}
@@ -11,21 +11,18 @@ use lib.Dec.{lit<}
 use lib.IntN.{ℤ}
 use lib.ListN.{length, getD, drop, replicate}
 use lib.Seq.{getD-take, getD-drop}
-use Rattle.lists.specs.Lists.{pick}
+use Rattle.lists.specs.Lists.{pick, itemOf, _beside_, total}
 use Rattle.lists.proofs.Table.{table-at}
-use Rattle.slices.specs.Copies.{itemOf, _beside_}
 use Rattle.slices.proofs.Copied.{or-zeros-fit}
 use Rattle.slices.proofs.Parts.{part-length}
 use Rattle.macroblock.specs.Reply.{unknownByte}
-use Rattle.clipping.specs.Clipped.{total}
-use Rattle.clipping.proofs.Total.{total-ext}
+use Rattle.lists.proofs.Total.{total-ext}
 use Rattle.record_bytes.specs.Bytes.{marksKnown}
 use Rattle.reconstruct.specs.declared.ReconstructedMb.{ReconstructedMb}
 use Rattle.reconstruct.specs.Answers.{refusal}
 use Rattle.drawing.specs.Drawn.{planesOf, drawnBytes}
 use Rattle.drawing.proofs.Shape.{planes-length}
-use Rattle.macroblock_slices.specs.Answers.{subModesFit, mbAnswer}
-use Rattle.macroblock_slices.specs.Answers.{lengthsFit as mbFit}
+use Rattle.zopredil.specs.Macroblocks.{subModesFit, mbAnswer, lengthsFit as mbFit}
 use Rattle.shelf_items.specs.Shelf.{shelved, lengthsFit, bytesAt, bytesAnswer}
 use Rattle.shelf_items.proofs.Drawn.{bytes-shape}
 use Rattle.shelf_laws.proofs.Items.{item-at}

@@ -8,12 +8,10 @@ use native.Mathlib.Omega.{arith}
 use borrow.Author.Tests.{eq-eqb}
 use lib.IntN.{ℤ}
 use lib.ListN.{length, drop, replicate, length-drop}
-use Rattle.slices.specs.Copies.{itemOf}
-use Rattle.lists.specs.Lists.{pick}
+use Rattle.lists.specs.Lists.{pick, itemOf, within}
 use Rattle.macroblock.specs.Reply.{done, unknownByte}
 use Rattle.macroblock.specs.declared.modes.MbModes.{MbModes}
 use Rattle.macroblock.specs.declared.neighbors.MbNeighbors.{MbNeighbors}
-use Rattle.record_bytes.specs.Bytes.{within}
 use Rattle.rfc6386.specs.Edges.{isB}
 use Rattle.reconstruct.specs.Answers.{refusal, wholeOf, partsOf, nonB, walkB}
 use Rattle.drawing.specs.Drawn.{planesOf, subModesOf, drawnB, drawnIn, drawnWith}

@@ -7,8 +7,7 @@ use mathlib.Core.List.{List}
 use borrow.Author.Tests.{eq-eqb}
 use lib.IntN.{ℤ}
 use lib.ListN.{length, getD}
-use Rattle.slices.specs.Copies.{itemOf}
-use Rattle.lists.specs.Lists.{pick}
+use Rattle.lists.specs.Lists.{pick, itemOf}
 use Rattle.lists.proofs.Table.{table-length, table-at}
 use Rattle.macroblock.specs.Reply.{unknownByte}
 use Rattle.record_bytes.specs.Bytes.{marksKnown}

@@ -4,8 +4,7 @@ use mathlib.Core.Bool.{true}
 use mathlib.Core.Path.{_≡_}
 use mathlib.Core.List.{List}
 use lib.ListN.{getD}
-use Rattle.lists.specs.Lists.{table}
-use Rattle.slices.specs.Copies.{itemOf}
+use Rattle.lists.specs.Lists.{table, itemOf}
 use Rattle.record_bytes.specs.Bytes.{marksKnown, recordOf}
 use Rattle.drawing.specs.Drawn.{modesKnown, modesOf}
 use Rattle.shelf_items.specs.declared.Job.{Job}

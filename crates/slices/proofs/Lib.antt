@@ -2,10 +2,8 @@
 --     Copied        a copying loop, and what a copy leaves where the lengths agree or differ
 --     Parts         a part of a slice, read and written
 --     Laid          three planes put into their parts of one slice
---     Pairs         a reply beside what a lent slice holds
 --     OneAnswer     each public promise admits one answer only
 pub mod Copied
 pub mod Parts
 pub mod Laid
-pub mod Pairs
 pub mod OneAnswer

@@ -3,28 +3,28 @@ use mathlib.Core.Path.{_≡_, ap}
 use mathlib.Core.List.{List}
 use Prim.Native.Nat.{ℕ}
 use Rattle.lists.proofs.Answer.{OneAnswerIn}
-use Rattle.slices.specs.Copies.{_beside_}
-use Rattle.slices.proofs.Pairs.{same-pair}
+use Rattle.lists.specs.Lists.{_beside_}
+use Rattle.lists.proofs.Pairs.{same-pair}
 use Rattle.still.specs.declared.StillReply.{StillReply}
-use Rattle.still.specs.Picture.{Canvas}
+use Rattle.still.specs.Picture.{Progress}
 use Rattle.still.specs.Answers.{told}
 use Rattle.still.proofs.still.Reads as still
 use Rattle.still.proofs.still.Kinds as still-k
 use Rattle.still.proofs.still_alone.Reads as still-alone
 use Rattle.still.proofs.still_alone.Kinds as still-alone-k
 
-planes-in : Canvas → List ℕ × (List ℕ × List ℕ)
+planes-in : Progress → List ℕ × (List ℕ × List ℕ)
 planes-in d = (d .y, (d .u, d .v))
 
 same-reply : (x y : StillReply) → x .reply ≡ y .reply → x .index ≡ y .index → x .clipped ≡ y .clipped → x ≡ y
 same-reply x y e f g = rw (e, f, g)
 
-same-told : (x y : StillReply) (a b c d e f : List ℕ) {z : Canvas × ℕ} → told x a b c ≡ z → told y d e f ≡ z
+same-told : (x y : StillReply) (a b c d e f : List ℕ) {z : Progress × ℕ} → told x a b c ≡ z → told y d e f ≡ z
     → (x ≡ y) × ((a beside b beside c) ≡ (d beside e beside f))
 unfolding planes-in
 same-told x y a b c d e f p q =
     let k = same-pair p q in
-    (same-reply x y (ap (λ (d : Canvas). d .reply) (k .0)) (ap (λ (d : Canvas). d .index) (k .0)) (k .1), ap planes-in (k .0))
+    (same-reply x y (ap (λ (d : Progress). d .reply) (k .0)) (ap (λ (d : Progress). d .index) (k .0)) (k .1), ap planes-in (k .0))
 
 pub still-one : OneAnswerIn 7 still-k.ps still-k.r still.Post {A = List ℕ × (List ℕ × List ℕ)}
     (λ κs s. (s .1 .1 .1 .1 .1 .1 .0 .now, (s .1 .1 .1 .1 .1 .1 .1 .0 .now, s .1 .1 .1 .1 .1 .1 .1 .1 .0 .now)))

@@ -6,7 +6,7 @@ use lib.IntN.{ℤ}
 use lib.ListN.{length, getD, take, drop}
 use Rattle.slices.specs.Copies.{orZeros}
 use Rattle.slices.proofs.Parts.{part-is, part-whole}
-use Rattle.canvas.specs.Drawn.{toldInto}
+use Rattle.canvas.specs.Into.{toldInto}
 use Rattle.still.specs.Picture.{drawnAt, countAt, toldAt}
 
 pub at-place : (w h : ℕ) (modes subs : List ℕ) (coeffs : List ℤ) (right : List ℕ) (k : ℕ) (y u v s : List ℕ)

@@ -7,9 +7,9 @@ use borrow.Author.Tests.{eqb-true}
 use lib.Dec.{eqb}
 use Rattle.lists.specs.Lists.{both}
 use Rattle.lists.proofs.Tests.{left-holds, right-holds}
-use Rattle.rfc6386.specs.Picture.{sizesOk}
+use Rattle.rfc6386.specs.Picture.{sizesOk, sizeOk}
 use Rattle.picture_limits.proofs.Accepted.{Within, place-says}
-use Rattle.still.specs.Answers.{sizeOk, lengthsOk}
+use Rattle.still.specs.Answers.{lengthsOk}
 use Rattle.still.specs.Fits.{Fits}
 
 pub size-says : (w h : ℕ) → sizeOk w h ≡ true → Within w h 0 0

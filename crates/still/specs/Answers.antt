@@ -6,24 +6,19 @@ use mathlib.Core.List.{List}
 use lib.Dec.{eqb}
 use lib.IntN.{ℤ}
 use lib.ListN.{length}
-use Rattle.lists.specs.Lists.{pick, both}
-use Rattle.slices.specs.Copies.{_beside_}
+use Rattle.lists.specs.Lists.{pick, both, _beside_}
 use Rattle.macroblock.specs.Reply.{wrongLength, outsidePicture}
-use Rattle.rfc6386.specs.Picture.{placeOk, sizesOk}
+use Rattle.rfc6386.specs.Picture.{sizeOk, sizesOk}
 use Rattle.still.specs.declared.StillReply.{StillReply}
-use Rattle.still.specs.Picture.{Canvas, canvas, picture, pictureClipped, rightGiven, rightRead}
+use Rattle.still.specs.Picture.{Progress, progress, picture, pictureClipped, rightGiven, rightRead}
 
 -- a reply and the planes that it leaves, beside its count
-abbrev pub told : StillReply → List ℕ → List ℕ → List ℕ → Canvas × ℕ
-told r y u v = canvas (r .reply) (r .index) y u v beside r .clipped
+abbrev pub told : StillReply → List ℕ → List ℕ → List ℕ → Progress × ℕ
+told r y u v = progress (r .reply) (r .index) y u v beside r .clipped
 
 -- a refusal before anything is drawn
 abbrev pub refusal : ℕ → StillReply
 refusal number = record { reply = number; index = 0; clipped = 0 }
-
--- each side 1 to 1,024
-unfoldable pub sizeOk : ℕ → ℕ → Bool
-sizeOk w h = placeOk w h 0 0
 
 -- 3, 16 and 400 an item, and the planes
 unfoldable pub lengthsOk : ℕ → ℕ → ℕ → ℕ → ℕ → ℕ → ℕ → ℕ → Bool
@@ -42,13 +37,13 @@ abbrev pub tested : {A : Type 0} → ℕ → ℕ → Bool → A → (ℕ → A) 
 tested w h fit drawn refused = pick (sizeOk w h) (pick fit drawn (refused wrongLength)) (refused outsidePicture)
 
 -- ---- the planes
-unfoldable pub stillAnswer : ℕ → ℕ → List ℕ → List ℕ → List ℤ → List ℕ → List ℕ → List ℕ → List ℕ → Canvas
+unfoldable pub stillAnswer : ℕ → ℕ → List ℕ → List ℕ → List ℤ → List ℕ → List ℕ → List ℕ → List ℕ → Progress
 stillAnswer w h modes subs coeffs right y u v =
-    tested w h (stillFits w h modes subs coeffs right y u v) (picture w h modes subs coeffs (rightGiven right) y u v) λ number. canvas number 0 y u v
+    tested w h (stillFits w h modes subs coeffs right y u v) (picture w h modes subs coeffs (rightGiven right) y u v) λ number. progress number 0 y u v
 
-unfoldable pub aloneAnswer : ℕ → ℕ → List ℕ → List ℕ → List ℤ → List ℕ → List ℕ → List ℕ → Canvas
+unfoldable pub aloneAnswer : ℕ → ℕ → List ℕ → List ℕ → List ℤ → List ℕ → List ℕ → List ℕ → Progress
 aloneAnswer w h modes subs coeffs y u v =
-    tested w h (aloneFits w h modes subs coeffs y u v) (picture w h modes subs coeffs (rightRead w h) y u v) λ number. canvas number 0 y u v
+    tested w h (aloneFits w h modes subs coeffs y u v) (picture w h modes subs coeffs (rightRead w h) y u v) λ number. progress number 0 y u v
 
 -- ---- how many sums were below 0 or above 255, of the finished macroblocks
 unfoldable pub stillClipped : ℕ → ℕ → List ℕ → List ℕ → List ℤ → List ℕ → List ℕ → List ℕ → List ℕ → ℕ
@@ -60,8 +55,8 @@ aloneClipped w h modes subs coeffs y u v =
     tested w h (aloneFits w h modes subs coeffs y u v) (pictureClipped w h modes subs coeffs (rightRead w h) y u v) λ number. 0
 
 -- ---- both
-abbrev pub stillTold : ℕ → ℕ → List ℕ → List ℕ → List ℤ → List ℕ → List ℕ → List ℕ → List ℕ → Canvas × ℕ
+abbrev pub stillTold : ℕ → ℕ → List ℕ → List ℕ → List ℤ → List ℕ → List ℕ → List ℕ → List ℕ → Progress × ℕ
 stillTold w h modes subs coeffs right y u v = stillAnswer w h modes subs coeffs right y u v beside stillClipped w h modes subs coeffs right y u v
 
-abbrev pub aloneTold : ℕ → ℕ → List ℕ → List ℕ → List ℤ → List ℕ → List ℕ → List ℕ → Canvas × ℕ
+abbrev pub aloneTold : ℕ → ℕ → List ℕ → List ℕ → List ℤ → List ℕ → List ℕ → List ℕ → Progress × ℕ
 aloneTold w h modes subs coeffs y u v = aloneAnswer w h modes subs coeffs y u v beside aloneClipped w h modes subs coeffs y u v

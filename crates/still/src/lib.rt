@@ -3,10 +3,11 @@ ghost use mathlib.Core.Path.{_≡_};
 ghost use Prim.Native.Nat.{_+_, _*_, _<_, _≤_};
 ghost use mathlib.Core.Bool.{true, false};
 ghost use lib.ListN.{length};
-ghost use Rattle.slices.specs.Copies.{_beside_};
+ghost use Rattle.lists.specs.Lists.{_beside_};
 ghost use Rattle.still.specs.Picture.{toldAt, drawing, rightAt, rightFrom};
 ghost use Rattle.still.specs.Fits.{Fits};
-ghost use Rattle.still.specs.Answers.{sizeOk, lengthsOk, told, refusal, stillTold, aloneTold};
+ghost use Rattle.still.specs.Answers.{lengthsOk, told, refusal, stillTold, aloneTold};
+ghost use Rattle.rfc6386.specs.Picture.{sizeOk};
 use canvas::DrawnMb;
 use macroblock::reply;
 
@@ -133,12 +134,6 @@ fn refused(reply: u32) -> StillReply
     }
 }
 
-fn size_ok(cols: usize, rows: usize) -> bool
-    ensures { λ r. ⌜ r ≡ sizeOk cols rows ⌝ }
-{
-    picture_limits::place_ok(cols, rows, 0, 0)
-}
-
 fn lengths_ok(
     cols: usize,
     rows: usize,
@@ -184,7 +179,7 @@ pub fn still(
         ≡ stillTold cols rows (now (modes .entry)) (now («sub_modes» .entry)) (now (coeffs .entry)) (now (right .entry))
         (now (y .entry)) (now (u .entry)) (now (v .entry)) ⌝ }
 {
-    if !size_ok(cols, rows) {
+    if !picture_limits::size_ok(cols, rows) {
         return refused(reply::OUTSIDE_PICTURE);
     }
     let fit = lengths_ok(
@@ -221,7 +216,7 @@ pub fn still_alone(
         ≡ aloneTold cols rows (now (modes .entry)) (now («sub_modes» .entry)) (now (coeffs .entry))
         (now (y .entry)) (now (u .entry)) (now (v .entry)) ⌝ }
 {
-    if !size_ok(cols, rows) {
+    if !picture_limits::size_ok(cols, rows) {
         return refused(reply::OUTSIDE_PICTURE);
     }
     let fit = lengths_ok(

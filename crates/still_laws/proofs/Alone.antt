@@ -18,8 +18,9 @@ use Rattle.picture_limits.proofs.Accepted.{Within}
 use Rattle.right_pixels.specs.Answers.{lastAbove, rightPixels}
 use Rattle.right_pixels.specs.declared.RightPixels.{RightPixels}
 use Rattle.right_pixels.proofs.Copies.{last-of-sixteen, row-refused, copies}
-use Rattle.still.specs.Picture.{Canvas, drawnAt, turn, first, picture, rightAt, rightGiven, rightRead}
-use Rattle.still.specs.Answers.{sizeOk, aloneFits, stillAnswer, aloneAnswer}
+use Rattle.still.specs.Picture.{Progress, drawnAt, turn, first, picture, rightAt, rightGiven, rightRead}
+use Rattle.still.specs.Answers.{aloneFits, stillAnswer, aloneAnswer}
+use Rattle.rfc6386.specs.Picture.{sizeOk}
 use Rattle.still.proofs.Sizes.{size-says, row-within}
 use Rattle.still_laws.specs.Words.{inY, rightsOf}
 use Rattle.still_laws.proofs.Digits.{pixel-from, rows-rise}
@@ -67,7 +68,7 @@ four-shown w h y r l m =
 
 -- ---- right-hand pixels from two sources that agree at every turn
 module _ (w h : ℕ) (modes subs : List ℕ) (coeffs : List ℤ) (s t : ℕ → List ℕ → List ℕ) where
-  turn-same : (k : ℕ) (d : Canvas) → s (k / w) (d .y) ≡ t (k / w) (d .y) → turn w h modes subs coeffs s k d ≡ turn w h modes subs coeffs t k d
+  turn-same : (k : ℕ) (d : Progress) → s (k / w) (d .y) ≡ t (k / w) (d .y) → turn w h modes subs coeffs s k d ≡ turn w h modes subs coeffs t k d
   unfolding turn drawnAt
   turn-same k d e = rw e
 
@@ -78,14 +79,14 @@ module _ (w h : ℕ) (modes subs : List ℕ) (coeffs : List ℤ) (s t : ℕ → 
   first-same y u v zero e = refl
   first-same y u v (suc m) e =
       turn-same m (first w h modes subs coeffs s m y u v) (e m (omega arith))
-      ∙ ap (λ (d : Canvas). turn w h modes subs coeffs t m d) (first-same y u v m (λ k l. e k (omega arith)))
+      ∙ ap (λ (d : Progress). turn w h modes subs coeffs t m d) (first-same y u v m (λ k l. e k (omega arith)))
 
 -- the last pixel of a row stands before the next
 row-ends : (t s : ℕ) → 0 < s → t * s + (s - 1) < suc t * s
 row-ends t s h = omega arith
 
 module _ (w h : ℕ) (modes subs : List ℕ) (coeffs : List ℤ) (y u v : List ℕ) (size : Within w h 0 0) (fits : length y ≡ 256 * (w * h)) where
-  abbrev at : ℕ → Canvas
+  abbrev at : ℕ → Progress
   at k = first w h modes subs coeffs (rightRead w h) k y u v
 
   -- the last pixel of the row above is at macroblock k's turn what it is in the end
@@ -98,7 +99,7 @@ module _ (w h : ℕ) (modes subs : List ℕ) (coeffs : List ℤ) (y u v : List �
       let ends : (16 * r - 1) * (16 * w) + (16 * w - 1) < 16 * r * (16 * w) = rw up at (row-ends (16 * r - 1) (16 * w) (omega arith)) in
       sym
       (first-kept w h modes subs coeffs (rightRead w h) y u v inY ((16 * r - 1) * (16 * w) + (16 * w - 1)) k (w * h) (le-of-lt l)
-      (λ j a b _ i x hi hx e. let f : 16 * r * (16 * w) ≤ _ = pixel-from 16 w r (j / w) (j % w) i x (rows-rise w k j some a) in omega arith))
+      (λ j a b _ i x hi hx e. let f : 16 * r * (16 * w) ≤ _ = pixel-from 16 w r (j % w) (j / w) i x (rows-rise w k j some a) in omega arith))
 
   agree : (k : ℕ) → k < w * h → rightRead w h (k / w) (at k .y) ≡ rightGiven (rightsOf w h (at (w * h) .y)) (k / w) (at k .y)
   agree k l =
@@ -121,7 +122,7 @@ module _ (w h : ℕ) (modes subs : List ℕ) (coeffs : List ℤ) (y u v : List �
 
 -- ---- the answers
 module _ (w h : ℕ) (modes subs : List ℕ) (coeffs : List ℤ) (y u v : List ℕ) where
-  abbrev alone : Canvas
+  abbrev alone : Progress
   alone = aloneAnswer w h modes subs coeffs y u v
 
   abbrev lengths : Bool

@@ -13,11 +13,11 @@ use lib.ListN.{length}
 use Rattle.lists.specs.Lists.{pick, both}
 use Rattle.lists.proofs.Tests.{both-says, T-true}
 use Rattle.macroblock.specs.Reply.{wrongLength, outsidePicture}
-use Rattle.rfc6386.specs.Picture.{sizesOk}
+use Rattle.rfc6386.specs.Picture.{sizesOk, sizeOk}
 use Rattle.picture_limits.proofs.Accepted.{Within, Lengths, sizes-say}
-use Rattle.still.specs.Picture.{Canvas, canvas, picture, rightGiven, rightRead}
+use Rattle.still.specs.Picture.{Progress, progress, picture, rightGiven, rightRead}
 use Rattle.still.proofs.Sizes.{size-says}
-use Rattle.still.specs.Answers.{sizeOk, lengthsOk, aloneFits, stillFits, stillAnswer, aloneAnswer}
+use Rattle.still.specs.Answers.{lengthsOk, aloneFits, stillFits, stillAnswer, aloneAnswer}
 
 module _ (w h : ℕ) (modes subs : List ℕ) (coeffs : List ℤ) (y u v : List ℕ) where
   abbrev lengths : Bool
@@ -33,12 +33,12 @@ module _ (w h : ℕ) (modes subs : List ℕ) (coeffs : List ℤ) (y u v : List �
       sizes-say (length y) (length u) (length v) w h (T-true _ (c .1))
 
   -- an answer, `right` being where the right-hand pixels come from
-  pub data Answered (right : ℕ → List ℕ → List ℕ) : Canvas → Type 0 where
-    refused : (n : ℕ) → (n ≡ 0 → ⊥) → Answered right (canvas n 0 y u v)
+  pub data Answered (right : ℕ → List ℕ → List ℕ) : Progress → Type 0 where
+    refused : (n : ℕ) → (n ≡ 0 → ⊥) → Answered right (progress n 0 y u v)
     drawn : Within w h 0 0 → Lengths (length y) (length u) (length v) w h → Answered right (picture w h modes subs coeffs right y u v)
 
   by-tests : (right : ℕ → List ℕ → List ℕ) (a b : Bool) → sizeOk w h ≡ a → (b ≡ true → lengths ≡ true)
-      → Answered right (pick a (pick b (picture w h modes subs coeffs right y u v) (canvas wrongLength 0 y u v)) (canvas outsidePicture 0 y u v))
+      → Answered right (pick a (pick b (picture w h modes subs coeffs right y u v) (progress wrongLength 0 y u v)) (progress outsidePicture 0 y u v))
   by-tests right false b e f = refused outsidePicture (λ z. omega arith)
   by-tests right true false e f = refused wrongLength (λ z. omega arith)
   by-tests right true true e f = drawn (size-says w h e) (accepted-lengths (f refl))

@@ -8,21 +8,21 @@ use native.Mathlib.Omega.{arith}
 use lib.Dec.{eqb}
 use lib.IntN.{ℤ}
 use lib.ListN.{length, drop}
-use Rattle.lists.specs.Lists.{pick}
+use Rattle.lists.specs.Lists.{pick, within}
 use Rattle.macroblock.specs.declared.modes.IntraBmode.{IntraBmode}
 use Rattle.macroblock.specs.declared.modes.MbModes.{MbModes}
 use Rattle.macroblock.specs.declared.neighbors.MbNeighbors.{MbNeighbors}
-use Rattle.clipping.proofs.Total.{total-≤}
+use Rattle.lists.proofs.Total.{total-≤}
 use Rattle.clipping.proofs.Bounds.{macroblock-≤, macroblock-B-≤}
 use Rattle.reconstruct.specs.declared.ReconstructedMb.{ReconstructedMb}
 use Rattle.reconstruct.specs.Answers.{refusal, wholeOf, partsOf, nonB, walkB}
 use Rattle.rfc6386.specs.Edges.{isB}
-use Rattle.record_bytes.specs.Bytes.{within}
 use Rattle.gathering.specs.Answers.{gathered}
 use Rattle.drawing.specs.Drawn.{drawn, drawnIn, drawnB, modesKnown, modesOf, subModesOf}
-use Rattle.canvas.specs.Drawn.{made, clippedInto}
-use Rattle.still.specs.Picture.{Canvas, first, countAt, countIn, firstClipped, pictureClipped, rightGiven, rightRead}
-use Rattle.still.specs.Answers.{sizeOk, aloneFits, stillFits, stillClipped, aloneClipped}
+use Rattle.canvas.specs.Into.{made, clippedInto}
+use Rattle.still.specs.Picture.{Progress, first, countAt, countIn, firstClipped, pictureClipped, rightGiven, rightRead}
+use Rattle.still.specs.Answers.{aloneFits, stillFits, stillClipped, aloneClipped}
+use Rattle.rfc6386.specs.Picture.{sizeOk}
 use Rattle.still.proofs.Sizes.{size-says, at-most}
 
 -- ---- one of two that are small is small
@@ -79,7 +79,7 @@ module _ (w h : ℕ) (modes subs : List ℕ) (coeffs : List ℤ) (right : ℕ �
   unfolding countAt
   at-≤ k y u v = into-≤ w h _ _ _ _ _ _ _ _ y u v
 
-  count-≤ : (k : ℕ) (d : Canvas) → countIn w h modes subs coeffs right k d ≤ 384
+  count-≤ : (k : ℕ) (d : Progress) → countIn w h modes subs coeffs right k d ≤ 384
   unfolding countIn
   count-≤ k d = number 384 (eqb (d .reply) 0) (countAt w h modes subs coeffs right k (d .y) (d .u) (d .v)) 0 (at-≤ k (d .y) (d .u) (d .v)) (omega arith)
 

@@ -21,8 +21,8 @@ use Rattle.reconstruct.specs.declared.ReconstructedMb.{ReconstructedMb}
 use Rattle.reconstruct.specs.Answers.{nonB, walkB}
 use Rattle.reconstruct.proofs.Demand3.{Blocks8191, Near, nonB-y, nonB-u, nonB-v, walkB-y, walkB-u, walkB-v}
 use Rattle.drawing.specs.Drawn.{modesOf, subModesOf}
-use Rattle.canvas.specs.Drawn.{made}
-use Rattle.still.specs.Picture.{Canvas, first}
+use Rattle.canvas.specs.Into.{made}
+use Rattle.still.specs.Picture.{Progress, first}
 use Rattle.still_laws.specs.Words.{inY, inU, inV, pixelOf, neighborsAt, lumaByte, chromaByte, skipByte, modesAt, subsAt, coeffsAt, madeAt, Finished}
 use Rattle.still_laws.proofs.Answered.{Answered}
 use Rattle.still_laws.proofs.Pixels.{finished-made, finished-pixels}
@@ -32,10 +32,10 @@ use Rattle.still_laws.proofs.Walked.{is-nonB, is-walkB}
 carried : (l m : List ℕ) (a b : ℕ) (x : ℕ → ℤ) (r c p : ℕ) → getD l a 0 ≡ getD m b 0 → Near m b x r c p → Near l a x r c p
 carried l m a b x r c p e h = rw e h
 
-module _ (w h : ℕ) (modes subs : List ℕ) (coeffs : List ℤ) (y u v : List ℕ) (right : ℕ → List ℕ → List ℕ) (d : Canvas)
+module _ (w h : ℕ) (modes subs : List ℕ) (coeffs : List ℤ) (y u v : List ℕ) (right : ℕ → List ℕ → List ℕ) (d : Progress)
     (a : Answered w h modes subs coeffs y u v right d) (k : ℕ) (f : Finished w h d k) (coded : skipByte modes k ≡ 0) where
   -- the planes at its turn, its neighbours there, and what the walkers make
-  abbrev before : Canvas
+  abbrev before : Progress
   before = first w h modes subs coeffs right k y u v
 
   abbrev around : MbNeighbors

@@ -23,14 +23,14 @@ across : (n w c x : ℕ) → c < w → x < n → n * c + x < n * w
 across n w c x h k = let m : n * suc c ≤ n * w = mul-le-mul-left n h in omega arith
 
 -- row by row, then across
-by-rows : (n w r c i x : ℕ) → pixelAt n w r c i x ≡ (n * r + i) * (n * w) + (n * c + x)
+by-rows : (n w c r i x : ℕ) → pixelAt n w c r i x ≡ (n * r + i) * (n * w) + (n * c + x)
 unfolding pixelAt
-by-rows n w r c i x = omega arith
+by-rows n w c r i x = omega arith
 
-module _ (n w r c i x s d j z : ℕ) (hc : c < w) (hi : i < n) (hx : x < n) (hd : d < w) (hj : j < n) (hz : z < n) where
-  pub pixel-apart : pixelAt n w r c i x ≡ pixelAt n w s d j z → (r ≡ s) × (i ≡ j) × (c ≡ d) × (x ≡ z)
+module _ (n w c r i x d s j z : ℕ) (hc : c < w) (hi : i < n) (hx : x < n) (hd : d < w) (hj : j < n) (hz : z < n) where
+  pub pixel-apart : pixelAt n w c r i x ≡ pixelAt n w d s j z → (r ≡ s) × (i ≡ j) × (c ≡ d) × (x ≡ z)
   pixel-apart e =
-      let f : (n * r + i) * (n * w) + (n * c + x) ≡ (n * s + j) * (n * w) + (n * d + z) = sym (by-rows n w r c i x) ∙ e ∙ by-rows n w s d j z in
+      let f : (n * r + i) * (n * w) + (n * c + x) ≡ (n * s + j) * (n * w) + (n * d + z) = sym (by-rows n w c r i x) ∙ e ∙ by-rows n w d s j z in
       let o = digits (n * w) (n * r + i) (n * c + x) (n * s + j) (n * d + z) (across n w c x hc hx) (across n w d z hd hz) f in
       let a = digits n r i s j hi hj (let t : n * r + i ≡ n * s + j = o .0 in omega arith) in
       let b = digits n c x d z hx hz (let t : n * c + x ≡ n * d + z = o .1 in omega arith) in
@@ -38,14 +38,14 @@ module _ (n w r c i x s d j z : ℕ) (hc : c < w) (hi : i < n) (hx : x < n) (hd 
 
 -- macroblocks k and l of a picture w wide
 pub macroblock-apart : (n w k l i x j z : ℕ) → 0 < w → i < n → x < n → j < n → z < n
-    → pixelAt n w (k / w) (k % w) i x ≡ pixelAt n w (l / w) (l % w) j z → k ≡ l
+    → pixelAt n w (k % w) (k / w) i x ≡ pixelAt n w (l % w) (l / w) j z → k ≡ l
 macroblock-apart n w k l i x j z hw hi hx hj hz e =
-    let o = pixel-apart n w (k / w) (k % w) i x (l / w) (l % w) j z (mod-lt k hw) hi hx (mod-lt l hw) hj hz e in
+    let o = pixel-apart n w (k % w) (k / w) i x (l % w) (l / w) j z (mod-lt k hw) hi hx (mod-lt l hw) hj hz e in
     sym (div-add-mod k w) ∙ ap (λ (t : ℕ). w * t + k % w) (o .0) ∙ ap (λ (t : ℕ). w * (l / w) + t) (o .2) ∙ div-add-mod l w
 
-pub pixel-from : (n w r s c i x : ℕ) → r ≤ s → n * r * (n * w) ≤ pixelAt n w s c i x
+pub pixel-from : (n w r c s i x : ℕ) → r ≤ s → n * r * (n * w) ≤ pixelAt n w c s i x
 unfolding pixelAt
-pixel-from n w r s c i x h =
+pixel-from n w r c s i x h =
     let a : n * r ≤ n * s = mul-le-mul-left n h in
     let b : n * r * (n * w) ≤ n * s * (n * w) = mul-le-mul-right (n * w) a in
     omega arith

@@ -19,7 +19,7 @@ use lib.ListN.{length, getD}
 use Rattle.lists.specs.Lists.{turns}
 use Rattle.macroblock.specs.Reply.{done}
 use Rattle.reconstruct.specs.declared.ReconstructedMb.{ReconstructedMb}
-use Rattle.still.specs.Picture.{Canvas, canvas, turn, first, picture}
+use Rattle.still.specs.Picture.{Progress, progress, turn, first, picture}
 use Rattle.still_laws.specs.Words.{Plane, planeOf, foundIn, Outside, madeAt, Finished}
 use Rattle.still_laws.proofs.Settled.{turns-settled}
 use Rattle.still_laws.proofs.Step.{Step, stays, refuses, puts, step, step-length, step-outside}
@@ -29,7 +29,7 @@ zero-or-not zero = inl refl
 zero-or-not (suc n) = inr (λ e. omega arith)
 
 -- ---- one turn
-module _ {w k : ℕ} {m : ReconstructedMb} {d e : Canvas} where
+module _ {w k : ℕ} {m : ReconstructedMb} {d e : Progress} where
   -- once refused, nothing changes
   step-refused : Step w k m d e → (d .reply ≡ 0 → ⊥) → e ≡ d
   step-refused (stays n q) h = q
@@ -44,17 +44,17 @@ module _ {w k : ℕ} {m : ReconstructedMb} {d e : Canvas} where
 
   -- a turn that keeps the reply 0 puts
   pub step-accepted : Step w k m d e → e .reply ≡ 0 → d .reply ≡ 0
-  step-accepted (stays n q) h = absurd (n (ap (λ (x : Canvas). x .reply) (sym q) ∙ h))
+  step-accepted (stays n q) h = absurd (n (ap (λ (x : Progress). x .reply) (sym q) ∙ h))
   step-accepted (refuses z n i f) h = z
   step-accepted (puts z q o r f) h = z
 
   step-zero : Step w k m d e → e .reply ≡ 0 → e .index ≡ 0
-  step-zero (stays n q) h = absurd (n (ap (λ (x : Canvas). x .reply) (sym q) ∙ h))
+  step-zero (stays n q) h = absurd (n (ap (λ (x : Progress). x .reply) (sym q) ∙ h))
   step-zero (refuses z n i f) h = absurd (n h)
   step-zero (puts z q o r f) h = o
 
 module _ (w h : ℕ) (modes subs : List ℕ) (coeffs : List ℤ) (right : ℕ → List ℕ → List ℕ) (y u v : List ℕ) where
-  abbrev at : ℕ → Canvas
+  abbrev at : ℕ → Progress
   at n = first w h modes subs coeffs right n y u v
 
   -- macroblock k was drawn
@@ -74,7 +74,7 @@ module _ (w h : ℕ) (modes subs : List ℕ) (coeffs : List ℤ) (right : ℕ �
       → getD (planeOf p (at m)) q 0 ≡ getD (planeOf p (at k)) q 0
   unfolding first turns
   first-kept p q k m l o =
-      turns-settled (λ (d : Canvas). getD (planeOf p d) q 0) (turn w h modes subs coeffs right) (canvas done 0 y u v) k m l
+      turns-settled (λ (d : Progress). getD (planeOf p d) q 0) (turn w h modes subs coeffs right) (progress done 0 y u v) k m l
       (λ j a b. step-outside (step w h modes subs coeffs right j (at j)) p q (o j a b))
 
   pub first-refused : (k m : ℕ) → k ≤ m → (at k .reply ≡ 0 → ⊥) → at m ≡ at k
@@ -83,7 +83,7 @@ module _ (w h : ℕ) (modes subs : List ℕ) (coeffs : List ℤ) (right : ℕ �
       ⊎-elim (λ e. rw e)
       (λ q.
       let s : at m ≡ at k = first-refused k m (le-of-suc-le-suc q) n in
-      step-refused (first-step m) (λ z. n (ap (λ (x : Canvas). x .reply) (sym s) ∙ z)) ∙ s)
+      step-refused (first-step m) (λ z. n (ap (λ (x : Progress). x .reply) (sym s) ∙ z)) ∙ s)
       (eq-or-lt-of-le l)
 
   pub index-before : (n : ℕ) → (at n .reply ≡ 0 → ⊥) → at n .index < n
@@ -95,7 +95,7 @@ module _ (w h : ℕ) (modes subs : List ℕ) (coeffs : List ℤ) (right : ℕ �
       (λ q.
       let s : at (suc n) ≡ at n = step-refused (first-step n) q in
       let i : at n .index < n = index-before n q in
-      let t : at (suc n) .index ≡ at n .index = ap (λ (x : Canvas). x .index) s in
+      let t : at (suc n) .index ≡ at n .index = ap (λ (x : Progress). x .index) s in
       omega arith)
       (zero-or-not (at n .reply))
 
@@ -113,12 +113,12 @@ module _ (w h : ℕ) (modes subs : List ℕ) (coeffs : List ℤ) (right : ℕ �
       ⊎-elim (λ e. absurd (r (subst (λ (t : ℕ). at t .reply ≡ 0) e a))) (λ q. omega arith) (eq-or-lt-of-le l))
       (λ q.
       let s : at (suc n) ≡ at n = step-refused (first-step n) q in
-      let t : at (suc n) .index ≡ at n .index = ap (λ (x : Canvas). x .index) s in
+      let t : at (suc n) .index ≡ at n .index = ap (λ (x : Progress). x .index) s in
       ⊎-elim (λ e. absurd (r (subst (λ (t : ℕ). at t .reply ≡ 0) e a)))
       (λ p. let i : k < at n .index = drawn-before k n a (le-of-suc-le-suc p) q in omega arith) (eq-or-lt-of-le l))
       (zero-or-not (at n .reply))
 
-  abbrev whole : Canvas
+  abbrev whole : Progress
   whole = picture w h modes subs coeffs right y u v
 
   pub finished-drawn : (k : ℕ) → Finished w h whole k → Drawn k
@@ -128,8 +128,8 @@ module _ (w h : ℕ) (modes subs : List ℕ) (coeffs : List ℤ) (right : ℕ �
       (λ r.
       let s : at (w * h) ≡ at (suc k) = first-refused (suc k) (w * h) (f .inside) r in
       let i : at (suc k) .index < suc k = index-before (suc k) r in
-      let t : at (w * h) .index ≡ at (suc k) .index = ap (λ (x : Canvas). x .index) s in
-      ⊎-elim (λ z. absurd (r (ap (λ (x : Canvas). x .reply) (sym s) ∙ z))) (λ l. absurd (omega arith)) (f .drawn))
+      let t : at (w * h) .index ≡ at (suc k) .index = ap (λ (x : Progress). x .index) s in
+      ⊎-elim (λ z. absurd (r (ap (λ (x : Progress). x .reply) (sym s) ∙ z))) (λ l. absurd (omega arith)) (f .drawn))
       (zero-or-not (at (suc k) .reply))
 
   pub drawn-finished : (k : ℕ) → k < w * h → Drawn k → Finished w h whole k

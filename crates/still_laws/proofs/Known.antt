@@ -9,19 +9,17 @@ use borrow.Author.Tests.{eqb-true, eqb-false, eq-eqb}
 use lib.Dec.{eqb}
 use lib.IntN.{ℤ}
 use lib.ListN.{length, drop, length-drop}
-use Rattle.lists.specs.Lists.{pick, both}
+use Rattle.lists.specs.Lists.{pick, both, within, _beside_}
 use Rattle.macroblock.specs.Reply.{done, unknownByte}
 use Rattle.macroblock.specs.declared.neighbors.MbNeighbors.{MbNeighbors}
-use Rattle.mode_bytes.specs.Says.{yReply, yMode}
-use Rattle.record_bytes.specs.Bytes.{within}
+use Rattle.macroblock.specs.Says.{yReply, yMode}
 use Rattle.rfc6386.specs.Edges.{isB}
 use Rattle.reconstruct.specs.declared.ReconstructedMb.{ReconstructedMb}
 use Rattle.reconstruct.specs.Answers.{refusal, wholeOf, partsOf, nonB, walkB}
 use Rattle.drawing.specs.Drawn.{modesKnown, modesOf, drawnB, drawnIn, drawn}
-use Rattle.slices.specs.Copies.{_beside_}
 use Rattle.gathering.specs.Answers.{gathered}
-use Rattle.canvas.specs.Drawn.{made, drawnInto}
-use Rattle.still.specs.Picture.{Canvas, drawnAt, turn}
+use Rattle.canvas.specs.Into.{made, drawnInto}
+use Rattle.still.specs.Picture.{Progress, drawnAt, turn}
 use Rattle.still.proofs.Sizes.{fits}
 use Rattle.still_laws.specs.Words.{lumaByte, chromaByte, skipByte, subsAt, coeffsAt, madeAt, bytesKnown}
 use Rattle.still_laws.proofs.Unread.{luma-says}
@@ -62,7 +60,7 @@ chosen : (b : Bool) (x : ℕ) (s t : List ℕ × (List ℕ × List ℕ)) → eqb
 chosen true x s t e = sym (eqb-true x 0 e)
 chosen false x s t e = refl
 
-module _ (w h : ℕ) (modes subs : List ℕ) (coeffs : List ℤ) (right : ℕ → List ℕ → List ℕ) (k : ℕ) (d : Canvas) where
+module _ (w h : ℕ) (modes subs : List ℕ) (coeffs : List ℤ) (right : ℕ → List ℕ → List ℕ) (k : ℕ) (d : Progress) where
   pub made-reply : length (coeffsAt coeffs k) ≡ 400 → madeAt w h modes subs coeffs right k d .reply ≡ pick (bytesKnown modes subs k) done unknownByte
   unfolding madeAt made bytesKnown
   made-reply l =

@@ -22,7 +22,7 @@ use Rattle.picture_limits.proofs.Accepted.{Lengths}
 use Rattle.picture_limits.proofs.Bounds.{placed}
 use Rattle.canvas.specs.Placed.{pixelAt}
 use Rattle.canvas.proofs.Places.{row-at}
-use Rattle.still.specs.Picture.{Canvas, canvas, first, picture, rightGiven, rightRead}
+use Rattle.still.specs.Picture.{Progress, progress, first, picture, rightGiven, rightRead}
 use Rattle.still.specs.Answers.{stillAnswer, aloneAnswer}
 use Rattle.still.proofs.Sizes.{row-within}
 use Rattle.still_laws.specs.Words.{Plane, inY, inU, inV, side, planeOf, foundIn, pixelsOf, pixelOf, Outside, madeAt, Finished}
@@ -33,19 +33,19 @@ use Rattle.still_laws.proofs.First.{first-step, first-length, first-kep
 use Rattle.still_laws.proofs.Answered.{Answered, refused, drawn, still-answered, alone-answered}
 
 -- ---- one turn
-module _ {w k : ℕ} {m : ReconstructedMb} {d e : Canvas} where
+module _ {w k : ℕ} {m : ReconstructedMb} {d e : Progress} where
   step-made : Step w k m d e → e .reply ≡ 0 → m .reply ≡ 0
-  step-made (stays n q) h = absurd (n (ap (λ (x : Canvas). x .reply) (sym q) ∙ h))
+  step-made (stays n q) h = absurd (n (ap (λ (x : Progress). x .reply) (sym q) ∙ h))
   step-made (refuses z n i f) h = absurd (n h)
   step-made (puts z q o r f) h = r
 
   step-pixels : Step w k m d e → e .reply ≡ 0 → 0 < w → (p : Plane) (i x : ℕ) → i < side p → x < side p → pixelOf p w k i x < length (planeOf p d)
       → getD (planeOf p e) (pixelOf p w k i x) 0 ≡ getD (pixelsOf p m) (side p * i + x) 0
-  step-pixels (stays n q) h s p i x hi hx l = absurd (n (ap (λ (x : Canvas). x .reply) (sym q) ∙ h))
+  step-pixels (stays n q) h s p i x hi hx l = absurd (n (ap (λ (x : Progress). x .reply) (sym q) ∙ h))
   step-pixels (refuses z n q f) h s p i x hi hx l = absurd (n h)
   step-pixels (puts z q o r f) h s p i x hi hx l =
       ap (λ (t : List ℕ). getD t (pixelOf p w k i x) 0) (f p)
-      ∙ placed-inside (side p) w (k / w) (k % w) (pixelsOf p m) (mod-lt k s) i x hi hx (planeOf p d) l
+      ∙ placed-inside (side p) w (k % w) (k / w) (pixelsOf p m) (mod-lt k s) i x hi hx (planeOf p d) l
 
 -- ---- a pixel of macroblock k lies in its plane
 module _ (w h : ℕ) (y u v : List ℕ) (fits : Lengths (length y) (length u) (length v) w h) where
@@ -66,7 +66,7 @@ module _ (w h : ℕ) (y u v : List ℕ) (fits : Lengths (length y) (length u) (l
       let b = row-at a i hi .whole in
       omega arith
 
-as-found : (n : ℕ) (y u v : List ℕ) (p : Plane) → planeOf p (canvas n 0 y u v) ≡ foundIn p y u v
+as-found : (n : ℕ) (y u v : List ℕ) (p : Plane) → planeOf p (progress n 0 y u v) ≡ foundIn p y u v
 as-found n y u v inY = refl
 as-found n y u v inU = refl
 as-found n y u v inV = refl
@@ -77,15 +77,15 @@ module _ (w h : ℕ) (modes subs : List ℕ) (coeffs : List ℤ) (y u v : List �
   abbrev atTurn : ℕ → ReconstructedMb
   atTurn k = madeAt w h modes subs coeffs right k (first w h modes subs coeffs right k y u v)
 
-  none-finished : (n k : ℕ) → (n ≡ 0 → ⊥) → Finished w h (canvas n 0 y u v) k → ⊥
+  none-finished : (n k : ℕ) → (n ≡ 0 → ⊥) → Finished w h (progress n 0 y u v) k → ⊥
   none-finished n k r f = ⊎-elim r (λ l. omega arith) (f .drawn)
 
-  pub finished-made : {d : Canvas} → Answered w h modes subs coeffs y u v right d → (k : ℕ) → Finished w h d k → atTurn k .reply ≡ done
+  pub finished-made : {d : Progress} → Answered w h modes subs coeffs y u v right d → (k : ℕ) → Finished w h d k → atTurn k .reply ≡ done
   finished-made (refused n r) k f = absurd (none-finished n k r f)
   finished-made (drawn size fits) k f =
       step-made (first-step w h modes subs coeffs right y u v k) (finished-drawn w h modes subs coeffs right y u v k f)
 
-  pub finished-pixels : {d : Canvas} → Answered w h modes subs coeffs y u v right d → (k : ℕ) → Finished w h d k
+  pub finished-pixels : {d : Progress} → Answered w h modes subs coeffs y u v right d → (k : ℕ) → Finished w h d k
       → (p : Plane) (i x : ℕ) → i < side p → x < side p → getD (planeOf p d) (pixelOf p w k i x) 0 ≡ getD (pixelsOf p (atTurn k)) (side p * i + x) 0
   unfolding picture
   finished-pixels (refused n r) k f p i x hi hx = absurd (none-finished n k r f)
@@ -97,7 +97,7 @@ module _ (w h : ℕ) (modes subs : List ℕ) (coeffs : List ℤ) (y u v : List �
       ∙ step-pixels (first-step w h modes subs coeffs right y u v k) (finished-drawn w h modes subs coeffs right y u v k f) some p i x hi hx
       (rw (first-length w h modes subs coeffs right y u v k p) lies)
 
-  pub unfinished : {d : Canvas} → Answered w h modes subs coeffs y u v right d → (p : Plane) (q : ℕ) → ((k : ℕ) → Finished w h d k → Outside p w k q)
+  pub unfinished : {d : Progress} → Answered w h modes subs coeffs y u v right d → (p : Plane) (q : ℕ) → ((k : ℕ) → Finished w h d k → Outside p w k q)
       → getD (planeOf p d) q 0 ≡ getD (foundIn p y u v) q 0
   unfolding picture first turns
   unfinished (refused n r) p q o = ap (λ (l : List ℕ). getD l q 0) (as-found n y u v p)
@@ -106,11 +106,11 @@ module _ (w h : ℕ) (modes subs : List ℕ) (coeffs : List ℤ) (y u v : List �
       (λ j a b t. o j (drawn-finished w h modes subs coeffs right y u v j b t))
 
   -- a refused still, by its index
-  pub refused-keeps : {d : Canvas} → Answered w h modes subs coeffs y u v right d → (d .reply ≡ 0 → ⊥)
+  pub refused-keeps : {d : Progress} → Answered w h modes subs coeffs y u v right d → (d .reply ≡ 0 → ⊥)
       → (p : Plane) (q : ℕ) → ((k : ℕ) → k < d .index → Outside p w k q) → getD (planeOf p d) q 0 ≡ getD (foundIn p y u v) q 0
   refused-keeps a n p q o = unfinished a p q (λ k f. o k (⊎-elim (λ z. absurd (n z)) (λ l. l) (f .drawn)))
 
-  pub answer-length : {d : Canvas} → Answered w h modes subs coeffs y u v right d → (p : Plane) → length (planeOf p d) ≡ length (foundIn p y u v)
+  pub answer-length : {d : Progress} → Answered w h modes subs coeffs y u v right d → (p : Plane) → length (planeOf p d) ≡ length (foundIn p y u v)
   unfolding picture
   answer-length (refused n r) p = ap (λ (l : List ℕ). length l) (as-found n y u v p)
   answer-length (drawn size fits) p = first-length w h modes subs coeffs right y u v (w * h) p
@@ -118,7 +118,7 @@ module _ (w h : ℕ) (modes subs : List ℕ) (coeffs : List ℤ) (y u v : List �
 -- ---- the two calls
 module _ (w h : ℕ) (modes subs : List ℕ) (coeffs : List ℤ) (y u v : List ℕ) where
   module _ (given : List ℕ) where
-    abbrev still : Canvas
+    abbrev still : Progress
     still = stillAnswer w h modes subs coeffs given y u v
 
     pub still-pixels : (k : ℕ) → Finished w h still k → (p : Plane) (i x : ℕ) → i < side p → x < side p
@@ -130,7 +130,7 @@ module _ (w h : ℕ) (modes subs : List ℕ) (coeffs : List ℤ) (y u v : List �
         → getD (planeOf p still) q 0 ≡ getD (foundIn p y u v) q 0
     still-unfinished = unfinished w h modes subs coeffs y u v (rightGiven given) (still-answered w h modes subs coeffs y u v given)
 
-  abbrev alone : Canvas
+  abbrev alone : Progress
   alone = aloneAnswer w h modes subs coeffs y u v
 
   pub alone-pixels : (k : ℕ) → Finished w h alone k → (p : Plane) (i x : ℕ) → i < side p → x < side p

@@ -15,8 +15,9 @@ use lib.Seq.{length-take-le}
 use Rattle.lists.specs.Lists.{turns, pick}
 use Rattle.macroblock.specs.Reply.{done, wrongLength, outsidePicture, unknownByte}
 use Rattle.picture_limits.proofs.Accepted.{Within, Lengths}
-use Rattle.still.specs.Picture.{Canvas, canvas, first, picture, rightGiven, rightRead}
-use Rattle.still.specs.Answers.{sizeOk, aloneFits, stillFits, stillAnswer, aloneAnswer}
+use Rattle.still.specs.Picture.{Progress, progress, first, picture, rightGiven, rightRead}
+use Rattle.still.specs.Answers.{aloneFits, stillFits, stillAnswer, aloneAnswer}
+use Rattle.rfc6386.specs.Picture.{sizeOk}
 use Rattle.still.proofs.Sizes.{size-says, fits}
 use Rattle.still_laws.specs.Words.{coeffsAt, bytesKnown}
 use Rattle.still_laws.proofs.First.{first-step, first-refused, index-none, step-index}
@@ -27,10 +28,10 @@ use Rattle.still_laws.proofs.Neighbors.{gathers-all, place, lengths-at}
 -- ---- the picture, its size and its lengths accepted
 module _ (w h : ℕ) (modes subs : List ℕ) (coeffs : List ℤ) (right : ℕ → List ℕ → List ℕ) (y u v : List ℕ)
     (size : Within w h 0 0) (planes : Lengths (length y) (length u) (length v) w h) (four-hundred : length coeffs ≡ 400 * (w * h)) where
-  abbrev at : ℕ → Canvas
+  abbrev at : ℕ → Progress
   at n = first w h modes subs coeffs right n y u v
 
-  abbrev whole : Canvas
+  abbrev whole : Progress
   whole = picture w h modes subs coeffs right y u v
 
   coeffs-length : (k : ℕ) → k < w * h → length (coeffsAt coeffs k) ≡ 400
@@ -63,8 +64,8 @@ module _ (w h : ℕ) (modes subs : List ℕ) (coeffs : List ℤ) (right : ℕ �
       let z : at j .reply ≡ 0 = known-so-far j (omega arith) e in
       let r : at (suc j) .reply ≡ 8 = first-reply j l z ∙ ap (λ (b : Bool). pick b done unknownByte) n in
       let s : at (w * h) ≡ at (suc j) = first-refused w h modes subs coeffs right y u v (suc j) (w * h) l (λ q. omega arith) in (
-        ap (λ (d : Canvas). d .reply) s ∙ r,
-        ap (λ (d : Canvas). d .index) s ∙ step-index (first-step w h modes subs coeffs right y u v j) (λ q. omega arith) z,
+        ap (λ (d : Progress). d .reply) s ∙ r,
+        ap (λ (d : Progress). d .index) s ∙ step-index (first-step w h modes subs coeffs right y u v j) (λ q. omega arith) z,
       )
 
 -- ---- the two calls, by their tests
@@ -73,21 +74,21 @@ module _ (w h : ℕ) (modes subs : List ℕ) (coeffs : List ℤ) (y u v : List �
   lengths = aloneFits w h modes subs coeffs y u v
 
   -- refused before anything is drawn
-  pub still-size : (given : List ℕ) → sizeOk w h ≡ false → stillAnswer w h modes subs coeffs given y u v ≡ canvas outsidePicture 0 y u v
+  pub still-size : (given : List ℕ) → sizeOk w h ≡ false → stillAnswer w h modes subs coeffs given y u v ≡ progress outsidePicture 0 y u v
   unfolding stillAnswer
   still-size given e = rw e
 
-  pub alone-size : sizeOk w h ≡ false → aloneAnswer w h modes subs coeffs y u v ≡ canvas outsidePicture 0 y u v
+  pub alone-size : sizeOk w h ≡ false → aloneAnswer w h modes subs coeffs y u v ≡ progress outsidePicture 0 y u v
   unfolding aloneAnswer
   alone-size e = rw e
 
   module _ (size : sizeOk w h ≡ true) where
     pub still-length : (given : List ℕ) → stillFits w h modes subs coeffs given y u v ≡ false
-        → stillAnswer w h modes subs coeffs given y u v ≡ canvas wrongLength 0 y u v
+        → stillAnswer w h modes subs coeffs given y u v ≡ progress wrongLength 0 y u v
     unfolding stillAnswer
     still-length given e = rw (size, e)
 
-    pub alone-length : lengths ≡ false → aloneAnswer w h modes subs coeffs y u v ≡ canvas wrongLength 0 y u v
+    pub alone-length : lengths ≡ false → aloneAnswer w h modes subs coeffs y u v ≡ progress wrongLength 0 y u v
     unfolding aloneAnswer
     alone-length e = rw (size, e)
 

@@ -21,12 +21,12 @@ use Rattle.macroblock.specs.Reply.{done, unknownByte}
 use Rattle.macroblock.specs.Modes.{modeAt, yModeAt}
 use Rattle.macroblock.specs.declared.modes.IntraYMode.the-variants as y
 use Rattle.macroblock.specs.declared.neighbors.MbNeighbors.{MbNeighbors}
-use Rattle.mode_bytes.specs.Says.{yReply, yMode}
+use Rattle.macroblock.specs.Says.{yReply, yMode}
 use Rattle.rfc6386.specs.Edges.{isB}
 use Rattle.gathering.specs.Answers.{gathered}
 use Rattle.drawing.specs.Drawn.{modesKnown, modesOf, drawnIn, drawn}
-use Rattle.canvas.specs.Drawn.{made, drawnInto}
-use Rattle.still.specs.Picture.{Canvas, canvas, drawnAt, turn, first, picture, rightGiven, rightRead}
+use Rattle.canvas.specs.Into.{made, drawnInto}
+use Rattle.still.specs.Picture.{Progress, progress, drawnAt, turn, first, picture, rightGiven, rightRead}
 use Rattle.still.specs.Answers.{stillAnswer, aloneAnswer}
 use Rattle.still_laws.specs.Words.{SameB}
 
@@ -67,7 +67,7 @@ module _ (luma chroma skip : ℕ) (subs others : List ℕ) (there : Bool) (n : M
   drawn-unread h = ⊎-elim unknown-unread whole-unread (luma-says luma h)
 
 -- ---- one turn
-module _ (w h : ℕ) (modes subs others : List ℕ) (coeffs : List ℤ) (right : ℕ → List ℕ → List ℕ) (k : ℕ) (d : Canvas) where
+module _ (w h : ℕ) (modes subs others : List ℕ) (coeffs : List ℤ) (right : ℕ → List ℕ → List ℕ) (k : ℕ) (d : Progress) where
   -- the sixteen are the same
   same-turn : take 16 (drop (16 * k) subs) ≡ take 16 (drop (16 * k) others) → turn w h modes subs coeffs right k d ≡ turn w h modes others coeffs right k d
   unfolding turn drawnAt
@@ -92,7 +92,7 @@ sixteen k subs others e h =
 
 -- ---- the calls
 module _ (w h : ℕ) (modes subs others : List ℕ) (same : SameB w h modes subs others) (coeffs : List ℤ) (y u v : List ℕ) where
-  pub turn-unread : (right : ℕ → List ℕ → List ℕ) (k : ℕ) (d : Canvas) → k < w * h
+  pub turn-unread : (right : ℕ → List ℕ → List ℕ) (k : ℕ) (d : Progress) → k < w * h
       → turn w h modes subs coeffs right k d ≡ turn w h modes others coeffs right k d
   turn-unread right k d l =
       ⊎-elim
@@ -103,7 +103,7 @@ module _ (w h : ℕ) (modes subs others : List ℕ) (same : SameB w h modes subs
   pub picture-unread : (right : ℕ → List ℕ → List ℕ) → picture w h modes subs coeffs right y u v ≡ picture w h modes others coeffs right y u v
   unfolding picture first
   picture-unread right =
-      turns-ext (w * h) (turn w h modes subs coeffs right) (turn w h modes others coeffs right) (canvas done 0 y u v) (λ k d l. turn-unread right k d l)
+      turns-ext (w * h) (turn w h modes subs coeffs right) (turn w h modes others coeffs right) (progress done 0 y u v) (λ k d l. turn-unread right k d l)
 
   pub still-unread : (given : List ℕ) → stillAnswer w h modes subs coeffs given y u v ≡ stillAnswer w h modes others coeffs given y u v
   unfolding stillAnswer

@@ -10,13 +10,12 @@ use borrow.Author.Tests.{eqb-true}
 use lib.Dec.{eqb, leb}
 use lib.IntN.{ℤ}
 use lib.ListN.{length, drop}
-use Rattle.lists.specs.Lists.{pick, both}
+use Rattle.lists.specs.Lists.{pick, both, within}
 use Rattle.lists.proofs.Tests.{both-says, T-true}
 use Rattle.macroblock.specs.Reply.{done, wrongLength, unknownByte}
 use Rattle.macroblock.specs.Modes.{modeAt, yModeAt}
 use Rattle.macroblock.specs.declared.neighbors.MbNeighbors.{MbNeighbors}
-use Rattle.mode_bytes.specs.Says.{yReply, yMode, uvReply}
-use Rattle.record_bytes.specs.Bytes.{within}
+use Rattle.macroblock.specs.Says.{yReply, yMode, uvReply}
 use Rattle.rfc6386.specs.Edges.{isB}
 use Rattle.reconstruct.specs.declared.ReconstructedMb.{ReconstructedMb}
 use Rattle.reconstruct.specs.Answers.{refusal, nonB, walkB}

@@ -8,18 +8,17 @@ use mathlib.Core.Logic.{_⊎_}
 use lib.Dec.{eqb}
 use lib.IntN.{ℤ}
 use lib.ListN.{length, getD, take, drop}
-use Rattle.lists.specs.Lists.{table, pick, both}
+use Rattle.lists.specs.Lists.{table, pick, both, within}
 use Rattle.macroblock.specs.Reply.{done}
 use Rattle.macroblock.specs.declared.modes.MbModes.{MbModes}
 use Rattle.macroblock.specs.declared.neighbors.MbNeighbors.{MbNeighbors}
 use Rattle.gathering.specs.Answers.{gathered}
-use Rattle.record_bytes.specs.Bytes.{within}
 use Rattle.drawing.specs.Drawn.{modesKnown, modesOf}
 use Rattle.reconstruct.specs.declared.ReconstructedMb.{ReconstructedMb}
 use Rattle.right_pixels.specs.Answers.{lastAbove}
 use Rattle.canvas.specs.Placed.{pixelAt}
-use Rattle.canvas.specs.Drawn.{made}
-use Rattle.still.specs.Picture.{Canvas, canvas}
+use Rattle.canvas.specs.Into.{made}
+use Rattle.still.specs.Picture.{Progress, progress}
 
 -- ---- the three planes: a macroblock's side, the plane itself, and a macroblock's pixels in it
 pub data Plane : Type 0 where
@@ -30,14 +29,14 @@ side inY = 16
 side inU = 8
 side inV = 8
 
-abbrev pub planeOf : Plane → Canvas → List ℕ
+abbrev pub planeOf : Plane → Progress → List ℕ
 planeOf inY d = d .y
 planeOf inU d = d .u
 planeOf inV d = d .v
 
 -- the planes as the call found them
 abbrev pub foundIn : Plane → List ℕ → List ℕ → List ℕ → List ℕ
-foundIn p y u v = planeOf p (canvas done 0 y u v)
+foundIn p y u v = planeOf p (progress done 0 y u v)
 
 abbrev pub pixelsOf : Plane → ReconstructedMb → List ℕ
 pixelsOf inY m = m .y
@@ -46,7 +45,7 @@ pixelsOf inV m = m .v
 
 -- the place of pixel x of row i of macroblock k, in a picture w macroblocks wide
 abbrev pub pixelOf : Plane → ℕ → ℕ → ℕ → ℕ → ℕ
-pixelOf p w k i x = pixelAt (side p) w (k / w) (k % w) i x
+pixelOf p w k i x = pixelAt (side p) w (k % w) (k / w) i x
 
 -- the place q is none of macroblock k's
 abbrev pub Outside : Plane → ℕ → ℕ → ℕ → Type 0
@@ -54,7 +53,7 @@ Outside p w k q = (i x : ℕ) → i < side p → x < side p → q ≡ pixelOf p 
 
 -- ---- macroblock k, over the planes as they stand: its neighbours, its modes, its sub-block bytes and coefficients, and what the walkers make of it
 module _ (w h : ℕ) (right : ℕ → List ℕ → List ℕ) where
-  unfoldable pub neighborsAt : ℕ → Canvas → MbNeighbors
+  unfoldable pub neighborsAt : ℕ → Progress → MbNeighbors
   neighborsAt k d = gathered (d .y) (d .u) (d .v) w h (k % w) (k / w) (right (k / w) (d .y)) .neighbors
 
 abbrev pub lumaByte : List ℕ → ℕ → ℕ
@@ -81,13 +80,13 @@ bytesKnown modes subs k =
     both (modesKnown (lumaByte modes k) (chromaByte modes k) (skipByte modes k)) (pick (eqb (lumaByte modes k) 4) (within 9 16 (subsAt subs k)) true)
 
 module _ (w h : ℕ) (modes subs : List ℕ) (coeffs : List ℤ) (right : ℕ → List ℕ → List ℕ) where
-  unfoldable pub madeAt : ℕ → Canvas → ReconstructedMb
+  unfoldable pub madeAt : ℕ → Progress → ReconstructedMb
   madeAt k d =
       made w h (k % w) (k / w) (lumaByte modes k) (chromaByte modes k) (skipByte modes k) (subsAt subs k) (right (k / w) (d .y))
       (coeffsAt coeffs k) (d .y) (d .u) (d .v)
 
 -- ---- macroblock k of the answer d is finished: all are where d is accepted, and those before its index where it is refused
-pub record Finished (w h : ℕ) (d : Canvas) (k : ℕ) : Type 0 where
+pub record Finished (w h : ℕ) (d : Progress) (k : ℕ) : Type 0 where
   pub inside : k < w * h
   pub drawn : (d .reply ≡ done) ⊎ (k < d .index)
 

@@ -6,12 +6,12 @@ use mathlib.Core.List.{List}
 use native.Mathlib.Omega.{arith}
 use lib.IntN.{ℤ}
 use lib.ListN.{getD}
-use Rattle.lists.specs.Lists.{turns}
+use Rattle.lists.specs.Lists.{turns, total}
 use Rattle.lists.proofs.Nested.{turns-ext, turns-rows, turns-add}
 use Rattle.macroblock.specs.declared.modes.IntraBmode.{IntraBmode}
 use Rattle.rfc6386.specs.Walk.{blockAt, subPrediction, subBlock, walked}
-use Rattle.clipping.specs.Clipped.{total, over, subClipped, walkedClipped}
-use Rattle.clipping.proofs.Total.{total-≤, total-ext, total-none, total-flat}
+use Rattle.clipping.specs.Clipped.{over, subClipped, walkedClipped}
+use Rattle.lists.proofs.Total.{total-≤, total-ext, total-none, total-flat}
 use Rattle.clipping.proofs.Counted.{over-≤}
 use Rattle.blocks.specs.Taken.{residuesFrom}
 use Rattle.sub_blocks.specs.Steps.{predictionAt, codedAt, clippedWith, clippedIn, rowClipped}

@@ -1,5 +1,5 @@
 -- The definitions that the contracts of `sub_blocks` cite beside those of `rfc6386`.
 --     Steps     the steps of the walk
---     Drawn     the luma with its count
+--     Parts     the luma with its count
 pub mod Steps
-pub mod Drawn
+pub mod Parts

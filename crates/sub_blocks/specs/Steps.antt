@@ -3,11 +3,11 @@ use Prim.Native.Nat.{ℕ, _+_, _*_, _/_, _%_}
 use mathlib.Core.List.{List}
 use lib.IntN.{ℤ, pos}
 use lib.ListN.{getD}
-use Rattle.lists.specs.Lists.{table, turns, store}
+use Rattle.lists.specs.Lists.{table, turns, store, total}
 use Rattle.macroblock.specs.declared.modes.IntraBmode.{IntraBmode}
 use Rattle.macroblock.specs.declared.modes.IntraBmode.the-variants.{Dc}
 use Rattle.rfc6386.specs.Residue.{sum}
-use Rattle.clipping.specs.Clipped.{total, over}
+use Rattle.clipping.specs.Clipped.{over}
 use Rattle.rfc6386.specs.Subblock.{predictB}
 use Rattle.rfc6386.specs.Walk.{cornerOf, aboveIn, leftIn, topLeftIn, putBlock}
 

@@ -7,7 +7,7 @@ ghost use Rattle.rfc6386.specs.Walk.{walked};
 ghost use Rattle.clipping.specs.Clipped.{walkedClipped};
 ghost use Rattle.blocks.specs.Taken.{residuesFrom};
 ghost use Rattle.sub_blocks.specs.Steps.{predictionAt, codedBlock, codedAt, clippedWith, rowClipped, skippedBlock, skippedAt};
-ghost use Rattle.sub_blocks.specs.Drawn.{partsDrawn};
+ghost use Rattle.sub_blocks.specs.Parts.{partsDrawn};
 use crate::put::clipped;
 use crate::put::put_block;
 use crate::put::sum_block;

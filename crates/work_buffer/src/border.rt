@@ -89,7 +89,7 @@ pub fn start(neighbors: MbNeighbors) -> [u8; LENGTH]
     let left = neighbors.y_left;
     let right = neighbors.y_above_right;
     bordered(
-        blocks::pixel_or(
+        intra_edges::pixel_or(
             MbNeighbors::ABOVE,
             neighbors.y_topleft,
             neighbors.y_topleft_there,

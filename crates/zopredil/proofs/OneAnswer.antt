@@ -1,44 +1,43 @@
 -- Each promise of the C interface admits one answer only, and leaves one thing only in what was lent. Assumes nothing.
-use mathlib.Core.Path.{ap}
 use mathlib.Core.List.{List}
 use Prim.Native.Nat.{ℕ}
 use lib.IntN.{ℤ}
-use Rattle.lists.proofs.Answer.{OneAnswerIn, same}
-use Rattle.slices.proofs.Pairs.{same-pair}
-use Rattle.zopredil.proofs.zopredil_still.Reads as still
-use Rattle.zopredil.proofs.zopredil_still.Kinds as still-k
-use Rattle.zopredil.proofs.zopredil_still_alone.Reads as still-alone
-use Rattle.zopredil.proofs.zopredil_still_alone.Kinds as still-alone-k
-use Rattle.zopredil.proofs.zopredil_y1_factors.Reads as y1-factors
-use Rattle.zopredil.proofs.zopredil_y1_factors.Kinds as y1-factors-k
-use Rattle.zopredil.proofs.zopredil_dequant_block.Reads as dequant-block
-use Rattle.zopredil.proofs.zopredil_dequant_block.Kinds as dequant-block-k
-use Rattle.zopredil.proofs.zopredil_dequantise.Reads as dequantise
-use Rattle.zopredil.proofs.zopredil_dequantise.Kinds as dequantise-k
-use Rattle.zopredil.proofs.zopredil_inverse_wht.Reads as inverse-wht
-use Rattle.zopredil.proofs.zopredil_inverse_wht.Kinds as inverse-wht-k
-use Rattle.zopredil.proofs.zopredil_inverse_wht_dc_only.Reads as inverse-wht-dc-only
-use Rattle.zopredil.proofs.zopredil_inverse_wht_dc_only.Kinds as inverse-wht-dc-only-k
-use Rattle.zopredil.proofs.zopredil_inverse_dct.Reads as inverse-dct
-use Rattle.zopredil.proofs.zopredil_inverse_dct.Kinds as inverse-dct-k
-use Rattle.zopredil.proofs.zopredil_inverse_dct_add_into.Reads as inverse-dct-add-into
-use Rattle.zopredil.proofs.zopredil_inverse_dct_add_into.Kinds as inverse-dct-add-into-k
-use Rattle.zopredil.proofs.zopredil_add_residue.Reads as add-residue
-use Rattle.zopredil.proofs.zopredil_add_residue.Kinds as add-residue-k
-use Rattle.zopredil.proofs.zopredil_predict_y16x16.Reads as predict-y16x16
-use Rattle.zopredil.proofs.zopredil_predict_y16x16.Kinds as predict-y16x16-k
-use Rattle.zopredil.proofs.zopredil_predict_uv8x8.Reads as predict-uv8x8
-use Rattle.zopredil.proofs.zopredil_predict_uv8x8.Kinds as predict-uv8x8-k
-use Rattle.zopredil.proofs.zopredil_predict_b4x4.Reads as predict-b4x4
-use Rattle.zopredil.proofs.zopredil_predict_b4x4.Kinds as predict-b4x4-k
-use Rattle.zopredil.proofs.zopredil_macroblock.Reads as macroblock
-use Rattle.zopredil.proofs.zopredil_macroblock.Kinds as macroblock-k
-use Rattle.zopredil.proofs.zopredil_gather.Reads as gather
-use Rattle.zopredil.proofs.zopredil_gather.Kinds as gather-k
-use Rattle.zopredil.proofs.zopredil_right_pixels.Reads as right-pixels
-use Rattle.zopredil.proofs.zopredil_right_pixels.Kinds as right-pixels-k
-use Rattle.zopredil.proofs.zopredil_shelf.Reads as shelf
-use Rattle.zopredil.proofs.zopredil_shelf.Kinds as shelf-k
+use Rattle.lists.proofs.Answer.{OneAnswerIn}
+use Rattle.lists.proofs.Pairs.{same-pair}
+use Rattle.zopredil.proofs.stills.zopredil_still.Reads as still
+use Rattle.zopredil.proofs.stills.zopredil_still.Kinds as still-k
+use Rattle.zopredil.proofs.stills.zopredil_still_alone.Reads as still-alone
+use Rattle.zopredil.proofs.stills.zopredil_still_alone.Kinds as still-alone-k
+use Rattle.zopredil.proofs.transforms.zopredil_y1_factors.Reads as y1-factors
+use Rattle.zopredil.proofs.transforms.zopredil_y1_factors.Kinds as y1-factors-k
+use Rattle.zopredil.proofs.transforms.zopredil_dequant_block.Reads as dequant-block
+use Rattle.zopredil.proofs.transforms.zopredil_dequant_block.Kinds as dequant-block-k
+use Rattle.zopredil.proofs.transforms.zopredil_dequantise.Reads as dequantise
+use Rattle.zopredil.proofs.transforms.zopredil_dequantise.Kinds as dequantise-k
+use Rattle.zopredil.proofs.transforms.zopredil_inverse_wht.Reads as inverse-wht
+use Rattle.zopredil.proofs.transforms.zopredil_inverse_wht.Kinds as inverse-wht-k
+use Rattle.zopredil.proofs.transforms.zopredil_inverse_wht_dc_only.Reads as inverse-wht-dc-only
+use Rattle.zopredil.proofs.transforms.zopredil_inverse_wht_dc_only.Kinds as inverse-wht-dc-only-k
+use Rattle.zopredil.proofs.transforms.zopredil_inverse_dct.Reads as inverse-dct
+use Rattle.zopredil.proofs.transforms.zopredil_inverse_dct.Kinds as inverse-dct-k
+use Rattle.zopredil.proofs.transforms.zopredil_inverse_dct_add_into.Reads as inverse-dct-add-into
+use Rattle.zopredil.proofs.transforms.zopredil_inverse_dct_add_into.Kinds as inverse-dct-add-into-k
+use Rattle.zopredil.proofs.transforms.zopredil_add_residue.Reads as add-residue
+use Rattle.zopredil.proofs.transforms.zopredil_add_residue.Kinds as add-residue-k
+use Rattle.zopredil.proofs.predictions.zopredil_predict_y16x16.Reads as predict-y16x16
+use Rattle.zopredil.proofs.predictions.zopredil_predict_y16x16.Kinds as predict-y16x16-k
+use Rattle.zopredil.proofs.predictions.zopredil_predict_uv8x8.Reads as predict-uv8x8
+use Rattle.zopredil.proofs.predictions.zopredil_predict_uv8x8.Kinds as predict-uv8x8-k
+use Rattle.zopredil.proofs.predictions.zopredil_predict_b4x4.Reads as predict-b4x4
+use Rattle.zopredil.proofs.predictions.zopredil_predict_b4x4.Kinds as predict-b4x4-k
+use Rattle.zopredil.proofs.macroblocks.zopredil_macroblock.Reads as macroblock
+use Rattle.zopredil.proofs.macroblocks.zopredil_macroblock.Kinds as macroblock-k
+use Rattle.zopredil.proofs.neighbours.zopredil_gather.Reads as gather
+use Rattle.zopredil.proofs.neighbours.zopredil_gather.Kinds as gather-k
+use Rattle.zopredil.proofs.neighbours.zopredil_right_pixels.Reads as right-pixels
+use Rattle.zopredil.proofs.neighbours.zopredil_right_pixels.Kinds as right-pixels-k
+use Rattle.zopredil.proofs.macroblocks.zopredil_shelf.Reads as shelf
+use Rattle.zopredil.proofs.macroblocks.zopredil_shelf.Kinds as shelf-k
 
 pub y1-factors-one : OneAnswerIn 1 y1-factors-k.ps y1-factors-k.r y1-factors.Post (λ κs s. s .1 .1 .0 .now)
 y1-factors-one κs a x y s t = same-pair
@@ -83,9 +82,7 @@ right-pixels-one κs a x y s t = same-pair
 
 pub dequantise-one : OneAnswerIn 2 dequantise-k.ps dequantise-k.r dequantise.Post
     {A = List ℤ × List ℤ} (λ κs s. (s .1 .1 .1 .1 .1 .1 .0 .now, s .1 .1 .1 .1 .1 .1 .1 .0 .now))
-dequantise-one κs a x y s t p q =
-    let e = same p q in
-    (ap (λ (w : ℕ × List ℤ × List ℤ). w .0) e, ap (λ (w : ℕ × List ℤ × List ℤ). (w .1, w .2)) e)
+dequantise-one κs a x y s t = same-pair
 
 pub still-one : OneAnswerIn 8 still-k.ps still-k.r still.Post {A = List ℕ × (List ℕ × (List ℕ × List ℕ))}
     (λ κs s. (

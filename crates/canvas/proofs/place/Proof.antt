@@ -12,11 +12,11 @@ use Rattle.canvas.proofs.place.Statement.{statement}
 use Rattle.canvas.proofs.place.Tie as tie
 
 abbrev Inv-loop : tie.InvT-loop
-Inv-loop plane₀ n w r c block stride i₀ plane i =
-    (i ≤ n) × ((plane ≡ turns i (placedRow n w r c block) plane₀) × (length plane ≡ length plane₀))
+Inv-loop plane₀ n w c r block stride i₀ plane i =
+    (i ≤ n) × ((plane ≡ turns i (placedRow n w c r block) plane₀) × (length plane ≡ length plane₀))
 
 abbrev μ-loop : tie.MeasureT-loop
-μ-loop plane₀ n w r c block stride i₀ plane i = n - i
+μ-loop plane₀ n w c r block stride i₀ plane i = n - i
 
 mul-stride : tie.Need-mul-stride Inv-loop μ-loop
 mul-stride c = let b = bounds ((c .before .before) .pre .0) in omega (arith, b .one, b .rows)

@@ -3,7 +3,8 @@ use mathlib.Core.Path.{_≡_, refl}
 use Prim.Native.Nat.{_-_, _≤_}
 use native.Mathlib.Omega.{arith}
 use borrow.Author.Needs.{needs}
-use Rattle.clipping.specs.Clipped.{total, blockClipped}
+use Rattle.clipping.specs.Clipped.{blockClipped}
+use Rattle.lists.specs.Lists.{total}
 use Rattle.clipping.proofs.Blocks.{overOf, over-turn}
 use Rattle.clipping.proofs.Counted.{over-≤}
 use Rattle.clipping.proofs.block_clipped.Statement.{statement}

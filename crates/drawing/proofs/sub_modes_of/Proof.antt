@@ -7,7 +7,7 @@ use lib.ListN.{getD, length, drop, length-set, replicate}
 use Rattle.lists.specs.Lists.{table}
 use Rattle.lists.proofs.Table.{table-none, table-turn, table-done}
 use Rattle.macroblock.specs.declared.modes.IntraBmode.the-variants as b
-use Rattle.mode_bytes.specs.Says.{bMode}
+use Rattle.macroblock.specs.Says.{bMode}
 use Rattle.drawing.specs.Drawn.{subModesOf}
 use Rattle.drawing.proofs.sub_modes_of.Statement.{statement}
 use Rattle.drawing.proofs.sub_modes_of.Tie as tie

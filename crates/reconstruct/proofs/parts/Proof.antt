@@ -4,8 +4,8 @@ use mathlib.Core.Path.{refl}
 use native.Mathlib.Omega.{arith}
 use borrow.Author.Needs.{needs}
 use Rattle.clipping.proofs.Bounds.{y-parts-≤, u-≤, v-≤}
-use Rattle.planes.specs.Drawn.{uDrawn, vDrawn}
-use Rattle.sub_blocks.specs.Drawn.{partsDrawn}
+use Rattle.planes.specs.Planes.{uDrawn, vDrawn}
+use Rattle.sub_blocks.specs.Parts.{partsDrawn}
 use Rattle.reconstruct.specs.Answers.{partsOf}
 use Rattle.reconstruct.proofs.parts.Statement.{statement}
 use Rattle.reconstruct.proofs.parts.Tie as tie

@@ -4,7 +4,7 @@ use mathlib.Core.Path.{refl}
 use native.Mathlib.Omega.{arith}
 use borrow.Author.Needs.{needs}
 use Rattle.clipping.proofs.Bounds.{y-whole-≤, u-≤, v-≤}
-use Rattle.planes.specs.Drawn.{yDrawn, uDrawn, vDrawn}
+use Rattle.planes.specs.Planes.{yDrawn, uDrawn, vDrawn}
 use Rattle.reconstruct.specs.Answers.{wholeOf}
 use Rattle.reconstruct.proofs.whole.Statement.{statement}
 use Rattle.reconstruct.proofs.whole.Tie as tie

@@ -12,7 +12,7 @@ use Rattle.row_part.proofs.Given.{given-says}
 use Rattle.row_part.proofs.row_part.Statement.{statement}
 use Rattle.row_part.proofs.row_part.Tie as tie
 
-room : (c : tie.Then1) → (let a = c .before .before .before .args in a .row * a .stride + a .column + a .count ≤ length (now (a .plane)))
+room : (c : tie.Then1) → (let a = c .before .before .before .args in a .row * a .stride + a .col + a .count ≤ length (now (a .plane)))
 room c = given-says _ _ _ _ _ (sym (c .before .part-given .ensures) ∙ c .if1 .taken) .2
 
 mul-at : tie.Need-mul-at

@@ -105,7 +105,7 @@ use denote.Triple.Statement.{Contract, Triple}
 use denote.Triple.Table.{entered, cited}
 use denote.Triple.Walked.{says, Stays, stay-dropped, gave-slice, walkOf, goes-dropped, goes-gave-slice, Walks, ends-at, walked, walk-meets}
 use denote.Exit.{yes}
-use Rattle.slices.specs.Copies.{_beside_}
+use Rattle.lists.specs.Lists.{_beside_}
 use Rattle.shelf_items.specs.Shelf.{shelfAnswer}
 use Rattle.shelf.specs.Few.{atMost32}
 use Rattle.shelf.proofs.Told.{at-most-≤, front-length, few-told}

@@ -4,12 +4,11 @@ use mathlib.Core.Path.{_≡_, refl, _∙_}
 use native.Mathlib.Omega.{arith}
 use borrow.Author.Needs.{needs}
 use lib.ListN.{length}
-use Rattle.lists.specs.Lists.{turns}
+use Rattle.lists.specs.Lists.{turns, total}
 use Rattle.lists.proofs.Turns.{turns-done}
-use Rattle.slices.proofs.Pairs.{pair, same-pair}
-use Rattle.clipping.specs.Clipped.{total}
-use Rattle.clipping.proofs.Total.{total-turn}
-use Rattle.still.specs.Picture.{canvas, turn, first, picture, countIn, firstClipped, pictureClipped, rightFrom}
+use Rattle.lists.proofs.Pairs.{pair, same-pair}
+use Rattle.lists.proofs.Total.{total-turn}
+use Rattle.still.specs.Picture.{progress, turn, first, picture, countIn, firstClipped, pictureClipped, rightFrom}
 use Rattle.still.proofs.Sizes.{at-most, row-within}
 use Rattle.still.proofs.Turned.{again, ended, count-turn, count-ended}
 use Rattle.still.proofs.draw_all.Statement.{statement}
@@ -19,9 +18,9 @@ abbrev Inv-loop : tie.InvT-loop
 Inv-loop cols rows modes sub-modes coeffs alone right y₀ u₀ v₀ n clipped₀ k₀ y u v clipped k =
     let next = turn cols rows modes sub-modes coeffs (rightFrom cols rows alone right) in
     (k ≤ n)
-    × (canvas 0 0 y u v ≡ turns k next (canvas 0 0 y₀ u₀ v₀))
+    × (progress 0 0 y u v ≡ turns k next (progress 0 0 y₀ u₀ v₀))
     × (clipped
-    ≡ total k (λ j. countIn cols rows modes sub-modes coeffs (rightFrom cols rows alone right) j (turns j next (canvas 0 0 y₀ u₀ v₀))))
+    ≡ total k (λ j. countIn cols rows modes sub-modes coeffs (rightFrom cols rows alone right) j (turns j next (progress 0 0 y₀ u₀ v₀))))
     × (clipped ≤ 4294967296 * k)
     × (length y ≡ length y₀)
     × (length u ≡ length u₀)

@@ -6,18 +6,12 @@ use borrow.Author.Needs.{needs}
 use borrow.Author.Tests.{lt-ltb, le-ltb}
 use Rattle.rfc6386.specs.Picture.{aboveRightOf}
 use Rattle.picture_limits.proofs.Bounds.{Above, above}
-use Rattle.gathering.proofs.Copied.{upper-fits, upper-copied, given-fits, given-copied}
+use Rattle.gathering.proofs.Copied.{upper-copied, given-copied}
 use Rattle.gathering.proofs.edges.above_right.Statement.{statement}
 use Rattle.gathering.proofs.edges.above_right.Tie as tie
 
-up : (c : tie.Then2) → (let a = c .before .before .before .before .args in Above 16 (a .plane .now) (a .w) (a .r) (a .c))
+up : (c : tie.Then2) → (let a = c .before .before .before .before .args in Above 16 (a .plane .now) (a .cols) (a .col) (a .row))
 up c = above (c .before .before .before .before .pre .0) (c .before .if1 .taken)
-
-copy-requires : tie.Need-copy-requires
-copy-requires c κs =
-    let t = c .before .before in
-    let b = t .before .before .before .before .pre in
-    upper-fits (b .0) (t .before .if1 .taken) _ _ (omega arith) (omega arith) _ _ (b .1) (c .before .row-part .ensures .0)
 
 returns : tie.Need-returns
 unfolding aboveRightOf
@@ -25,21 +19,16 @@ returns c =
     let e = c .before .before .before .before in
     let t = e .before in
     let b = t .before .before .before .before in
-    rw (lt-ltb _ _ (t .before .if1 .taken), lt-ltb (b .args .c + 1) (b .args .w) (omega arith))
+    rw (lt-ltb _ _ (t .before .if1 .taken), lt-ltb (b .args .col + 1) (b .args .cols) (omega arith))
     (upper-copied (b .pre .0) (t .before .if1 .taken) _ _ (omega arith) (omega arith) _ _ (b .pre .1) (e .row-part .ensures .0) _
     (c .before .before .copy .ensures))
-
-copy-requires-2 : tie.Need-copy-requires-2
-copy-requires-2 c κs =
-    let b = c .before .before .before .before .before .before in
-    given-fits (b .args .dst .now) (b .args .given .now) (b .pre .1) (omega arith)
 
 returns-2 : tie.Need-returns-2
 unfolding aboveRightOf
 returns-2 c =
     let t = c .before .before .before .before .before in
     let b = t .before .before .before .before in
-    rw (lt-ltb _ _ (t .before .if1 .taken), le-ltb (b .args .c + 1) (b .args .w) (omega arith))
+    rw (lt-ltb _ _ (t .before .if1 .taken), le-ltb (b .args .col + 1) (b .args .cols) (omega arith))
     (given-copied (b .args .dst .now) (b .args .given .now) (b .pre .1) (omega arith) _ (c .before .before .copy2 .ensures))
 
 returns-3 : tie.Need-returns-3
@@ -57,8 +46,8 @@ above-right-spec =
     (λ c. let k = up c in omega arith)
     (λ c. let k = up c in omega arith)
     (λ c κs. search needs)
-    copy-requires
-    copy-requires-2
+    (λ c κs. tt)
+    (λ c κs. tt)
     (λ c. search needs)
     returns
     (λ c. search needs)

@@ -8,7 +8,7 @@ use Rattle.gathering.proofs.Copied.{column-room, column-drawn}
 use Rattle.gathering.proofs.edges.left_column.Statement.{statement}
 use Rattle.gathering.proofs.edges.left_column.Tie as tie
 
-side : (c : tie.Then1) → (let a = c .before .before .before .args in Left (a .n) (a .plane .now) (a .w) (a .r) (a .c))
+side : (c : tie.Then1) → (let a = c .before .before .before .args in Left (a .n) (a .plane .now) (a .cols) (a .col) (a .row))
 side c = left (c .before .before .before .pre .0) (c .if1 .taken)
 
 column-requires : tie.Need-column-requires

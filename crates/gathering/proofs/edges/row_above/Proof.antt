@@ -4,18 +4,12 @@ use borrow.Author.Needs.{needs}
 use borrow.Author.Tests.{lt-ltb, le-ltb}
 use Rattle.rfc6386.specs.Picture.{aboveOf}
 use Rattle.picture_limits.proofs.Bounds.{Above, bounds, above}
-use Rattle.gathering.proofs.Copied.{upper-fits, upper-copied}
+use Rattle.gathering.proofs.Copied.{upper-copied}
 use Rattle.gathering.proofs.edges.row_above.Statement.{statement}
 use Rattle.gathering.proofs.edges.row_above.Tie as tie
 
-up : (c : tie.Then1) → (let a = c .before .before .before .args in Above (a .n) (a .plane .now) (a .w) (a .r) (a .c))
+up : (c : tie.Then1) → (let a = c .before .before .before .args in Above (a .n) (a .plane .now) (a .cols) (a .col) (a .row))
 up c = above (c .before .before .before .pre .0) (c .if1 .taken)
-
-copy-requires : tie.Need-copy-requires
-copy-requires c κs =
-    let t = c .before .before in
-    let b = t .before .before .before .pre in
-    upper-fits (b .0) (t .if1 .taken) _ _ (b .0 .some) (bounds (b .0) .column) _ _ (b .1) (c .before .row-part .ensures .0)
 
 returns : tie.Need-returns
 unfolding aboveOf
@@ -39,7 +33,7 @@ row-above-spec =
     (λ c. let k = up c in omega arith)
     (λ c. let k = up c in omega arith)
     (λ c κs. search needs)
-    copy-requires
+    (λ c κs. tt)
     (λ c. search needs)
     returns
     returns-2)

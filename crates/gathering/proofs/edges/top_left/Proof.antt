@@ -8,7 +8,7 @@ use Rattle.gathering.proofs.edges.top_left.Statement.{statement}
 use Rattle.gathering.proofs.edges.top_left.Tie as tie
 
 corner : (c : tie.Then2)
-    → (let a = c .before .before .args in Above (a .n) (a .plane .now) (a .w) (a .r) (a .c) × Left (a .n) (a .plane .now) (a .w) (a .r) (a .c))
+    → (let a = c .before .before .args in Above (a .n) (a .plane .now) (a .cols) (a .col) (a .row) × Left (a .n) (a .plane .now) (a .cols) (a .col) (a .row))
 corner c = (above (c .before .before .pre) (c .before .if1 .taken), left (c .before .before .pre) (c .if2 .taken))
 
 returns : tie.Need-returns

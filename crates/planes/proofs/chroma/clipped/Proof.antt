@@ -3,8 +3,8 @@ use Prim.Native.Nat.{_-_, _≤_, _*_}
 use mathlib.Core.Path.{_≡_, refl}
 use native.Mathlib.Omega.{arith}
 use borrow.Author.Needs.{needs}
-use Rattle.clipping.specs.Clipped.{total}
-use Rattle.clipping.proofs.Total.{total-turn}
+use Rattle.lists.specs.Lists.{total}
+use Rattle.lists.proofs.Total.{total-turn}
 use Rattle.planes.specs.Steps.{rowClipped}
 use Rattle.planes.proofs.Counts.{row-≤}
 use Rattle.planes.proofs.chroma.clipped.Statement.{statement}

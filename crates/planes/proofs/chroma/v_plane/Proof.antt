@@ -3,7 +3,7 @@ use mathlib.Core.Path.{refl}
 use borrow.Author.Needs.{needs}
 use Rattle.rfc6386.specs.Walk.{vPlane, vPrediction}
 use Rattle.clipping.specs.Clipped.{vClipped}
-use Rattle.planes.specs.Drawn.{chromaOf, vDrawn}
+use Rattle.planes.specs.Planes.{chromaOf, vDrawn}
 use Rattle.planes.proofs.chroma.v_plane.Statement.{statement}
 use Rattle.planes.proofs.chroma.v_plane.Tie as tie
 

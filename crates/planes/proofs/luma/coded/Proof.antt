@@ -3,10 +3,9 @@ use Prim.Native.Nat.{_-_, _≤_, _*_}
 use mathlib.Core.Path.{_≡_, refl}
 use native.Mathlib.Omega.{arith}
 use borrow.Author.Needs.{needs}
-use Rattle.lists.specs.Lists.{turns}
+use Rattle.lists.specs.Lists.{turns, total}
 use Rattle.lists.proofs.Turns.{turns-step}
-use Rattle.clipping.specs.Clipped.{total}
-use Rattle.clipping.proofs.Total.{total-turn}
+use Rattle.lists.proofs.Total.{total-turn}
 use Rattle.rfc6386.specs.Dct.{idctFour}
 use Rattle.planes.specs.Steps.{seededFour, groupAdded, groupClipped}
 use Rattle.planes.proofs.Counts.{group-≤}

@@ -1,47 +1,14 @@
--- `planes::luma::predicted` meets its contract: by the mode. Assumes nothing.
-use Rattle.rfc6386.specs.Edges.{predictY}
+-- `planes::luma::predicted` meets its contract. Assumes nothing.
+use mathlib.Core.Path.{refl}
+use borrow.Author.Needs.{needs}
+use Rattle.intra_predict.specs.Luma.{predictedY}
 use Rattle.rfc6386.specs.Walk.{yPrediction}
-use borrow.Author.Needs.{needs}
-use borrow.Author.Needs.{needs}
 use Rattle.planes.proofs.luma.predicted.Statement.{statement}
 use Rattle.planes.proofs.luma.predicted.Tie as tie
 
 returns : tie.Need-returns
-unfolding yPrediction predictY
-returns c = rw (c .before .enum-told .given .1) (c .predict-y16x16-dc .ensures)
-
-returns-2 : tie.Need-returns-2
-unfolding yPrediction predictY
-returns-2 c = rw (c .before .enum-told2 .given .1) (c .predict-y16x16-v .ensures)
-
-returns-3 : tie.Need-returns-3
-unfolding yPrediction predictY
-returns-3 c = rw (c .before .enum-told3 .given .1) (c .predict-y16x16-h .ensures)
-
-returns-4 : tie.Need-returns-4
-unfolding yPrediction predictY
-returns-4 c = rw (c .before .before .enum-told4 .given .1, c .predict-y16x16-tm .ensures, c .before .pixel-or .ensures)
-
-returns-5 : tie.Need-returns-5
-unfolding yPrediction predictY
-returns-5 c = rw (c .enum-told5 .given .1)
+unfolding yPrediction predictedY
+returns c = rw (c .before .predict-y16x16 .ensures, c .before .before .pixel-or .ensures)
 
 pub predicted-spec : {M : Type 1} → statement M
-predicted-spec =
-    tie.close
-    (tie.spec
-    (λ c. search needs)
-    (λ c κs. search needs)
-    (λ c. search needs)
-    (λ c κs. search needs)
-    (λ c. search needs)
-    (λ c κs. search needs)
-    (λ c. search needs)
-    (λ c κs. search needs)
-    (λ c κs. search needs)
-    (λ c. search needs)
-    returns
-    returns-2
-    returns-3
-    returns-4
-    returns-5)
+predicted-spec = tie.close (tie.spec (λ c κs. search needs) (λ c κs. search needs) returns)

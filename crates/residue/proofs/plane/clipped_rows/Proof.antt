@@ -4,7 +4,8 @@ use Prim.Native.Nat.{_-_, _*_, _/_, _≤_}
 use native.Mathlib.Nat.{mul-le-mul-right}
 use native.Mathlib.Omega.{arith}
 use borrow.Author.Needs.{needs}
-use Rattle.clipping.specs.Clipped.{total, clippedAt}
+use Rattle.clipping.specs.Clipped.{clippedAt}
+use Rattle.lists.specs.Lists.{total}
 use Rattle.clipping.proofs.Counted.{over-≤}
 use Rattle.residue.proofs.Counted.{overAt, count-turn}
 use Rattle.residue.proofs.plane.clipped_rows.Statement.{statement}

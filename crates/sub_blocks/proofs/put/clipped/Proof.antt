@@ -6,8 +6,9 @@ use mir.Facts.{toZ-ofZ}
 use borrow.Author.Needs.{sfits-of}
 use lib.IntN.{pos}
 use lib.ListN.{getD}
-use Rattle.clipping.specs.Clipped.{total, over}
-use Rattle.clipping.proofs.Total.{total-turn}
+use Rattle.clipping.specs.Clipped.{over}
+use Rattle.lists.specs.Lists.{total}
+use Rattle.lists.proofs.Total.{total-turn}
 use Rattle.clipping.proofs.Counted.{over-≤}
 use Rattle.sub_blocks.specs.Steps.{clippedWith}
 use Rattle.sub_blocks.proofs.put.clipped.Statement.{statement}

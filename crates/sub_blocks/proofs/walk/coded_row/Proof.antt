@@ -3,10 +3,9 @@ use Prim.Native.Nat.{_-_, _≤_, _*_}
 use mathlib.Core.Path.{_≡_, refl}
 use native.Mathlib.Omega.{arith}
 use borrow.Author.Needs.{needs}
-use Rattle.lists.specs.Lists.{turns}
+use Rattle.lists.specs.Lists.{turns, total}
 use Rattle.lists.proofs.Turns.{turns-step, turns-done}
-use Rattle.clipping.specs.Clipped.{total}
-use Rattle.clipping.proofs.Total.{total-turn}
+use Rattle.lists.proofs.Total.{total-turn}
 use Rattle.sub_blocks.specs.Steps.{codedAt, clippedIn, rowClipped}
 use Rattle.sub_blocks.proofs.Counts.{with-≤}
 use Rattle.sub_blocks.proofs.walk.coded_row.Statement.{statement}

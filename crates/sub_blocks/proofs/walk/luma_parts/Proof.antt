@@ -2,7 +2,7 @@
 use mathlib.Core.Path.{refl}
 use Rattle.rfc6386.specs.Walk.{yParts}
 use Rattle.clipping.specs.Clipped.{yPartsClipped}
-use Rattle.sub_blocks.specs.Drawn.{partsDrawn}
+use Rattle.sub_blocks.specs.Parts.{partsDrawn}
 use Rattle.sub_blocks.proofs.walk.luma_parts.Statement.{statement}
 use Rattle.sub_blocks.proofs.walk.luma_parts.Tie as tie
 

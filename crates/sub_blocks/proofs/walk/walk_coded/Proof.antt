@@ -3,10 +3,9 @@ use Prim.Native.Nat.{_*_, _-_, _≤_}
 use mathlib.Core.Path.{_≡_, refl, _∙_}
 use native.Mathlib.Omega.{arith}
 use borrow.Author.Needs.{needs}
-use Rattle.lists.specs.Lists.{turns}
+use Rattle.lists.specs.Lists.{turns, total}
 use Rattle.lists.proofs.Turns.{turns-step, turns-done}
-use Rattle.clipping.specs.Clipped.{total}
-use Rattle.clipping.proofs.Total.{total-turn}
+use Rattle.lists.proofs.Total.{total-turn}
 use Rattle.blocks.specs.Taken.{residuesFrom}
 use Rattle.sub_blocks.specs.Steps.{codedAt, rowClipped}
 use Rattle.sub_blocks.proofs.Walked.{coded-rows}

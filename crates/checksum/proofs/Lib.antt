@@ -1,0 +1,2 @@
+-- Each promise of `checksum` admits one answer only.
+pub mod OneAnswer

@@ -1,0 +1,2 @@
+-- Adler-32.
+pub mod Adler

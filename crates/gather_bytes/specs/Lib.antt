@@ -1,2 +1,0 @@
--- What gathering over lent slices answers.
-pub mod Answer

@@ -1,2 +1,0 @@
--- One macroblock over lent slices.
-pub mod Answers

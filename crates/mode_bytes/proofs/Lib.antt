@@ -1,2 +1,0 @@
--- Each public promise of `mode_bytes` admits one answer only.
-pub mod OneAnswer

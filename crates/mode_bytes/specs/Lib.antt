@@ -1,2 +1,0 @@
--- What the bytes of a macroblock say of its modes.
-pub mod Says

@@ -1,2 +1,0 @@
--- The predictors over lent slices.
-pub mod Answers

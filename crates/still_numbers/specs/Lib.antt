@@ -1,2 +1,0 @@
--- The answer of a still as one number.
-pub mod Numbers

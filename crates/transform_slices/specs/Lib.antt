@@ -1,2 +1,0 @@
--- The transforms over lent slices.
-pub mod Answers

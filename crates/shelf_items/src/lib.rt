@@ -123,8 +123,8 @@ fn draw_job(
     let modes = job.modes;
     let neighbors = job.neighbors;
     let subs = slices::sixteen(&sub_modes[16 * i..16 * i + 16]);
-    let levels = &coeffs[400 * i..400 * i + 400];
-    let drawn = drawing::draw_with(modes, subs, true, neighbors, levels);
+    let numbers = &coeffs[400 * i..400 * i + 400];
+    let drawn = drawing::draw_with(modes, subs, true, neighbors, numbers);
     put_item(drawn, out, replies, clipped, i);
 }
 

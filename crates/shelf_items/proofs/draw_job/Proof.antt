@@ -2,19 +2,17 @@
 use mathlib.Core.Path.{subst, sym}
 use native.Mathlib.Omega.{arith}
 use borrow.Author.Needs.{needs}
-use Rattle.drawing.proofs.Shape.{Shape}
-use Rattle.shelf_items.proofs.Drawn.{job-drawn, job-shape}
+use Rattle.drawing.proofs.Shape.{Shape, with-shape}
+use Rattle.shelf_items.proofs.Drawn.{job-drawn}
 use Rattle.shelf_items.proofs.draw_job.Statement.{statement}
 use Rattle.shelf_items.proofs.draw_job.Tie as tie
 
+-- any macroblock that was drawn has its shape
 put-item-requires : tie.Need-put-item-requires
 put-item-requires c κs =
     let draw-with = c .before .before .before in
-    let sixteen = draw-with .before .before in
-    let start = sixteen .before .before .before .before .before .before .before .before in
-    let a = start .args in
-    let e = job-drawn (a .job) (a .sub-modes .now) (a .coeffs .now) (a .i) _ _ (start .pre .0) (sixteen .sixteen .ensures) (draw-with .draw-with .ensures) in
-    let s = subst Shape (sym e) (job-shape (a .job) (a .sub-modes .now) (a .coeffs .now) (a .i)) in
+    let start = draw-with .before .before .before .before .before .before .before .before .before .before in
+    let s = subst Shape (sym (draw-with .draw-with .ensures)) (with-shape _ _ _ _ _) in
     (omega (arith, s .number), s .counted, start .pre .2)
 
 returns : tie.Need-returns

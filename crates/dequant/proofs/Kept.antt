@@ -3,7 +3,7 @@
 use mathlib.Core.Path.{_≡_}
 use mathlib.Core.Bool.{Bool, true, false}
 use mathlib.Core.List.{List}
-use Prim.Native.Nat.{ℕ, _<_, _≤_}
+use Prim.Native.Nat.{ℕ, _<_}
 use borrow.Author.Tests.{eq-eqb}
 use lib.Dec.{eqb}
 use lib.IntN.{ℤ, pos}
@@ -31,9 +31,9 @@ zero-kept q ydc y2dc y2ac uvdc uvac l j h e =
     zero-either (sumsFit q ydc y2dc y2ac uvdc uvac) (eqb (length l) 400) f (noFactors wrongLength) (noFactors indexSum) (mbDequantised f l) l j
     (blocks-zero 25 (dcOf f) (acOf f) l j h e) e
 
-pub bitstream-done : (n : ℕ) (ydc y2dc y2ac uvdc uvac : ℤ) (l : List ℤ) → n ≤ 127 → Small 15 ydc → Small 15 y2dc → Small 15 y2ac → Small 15 uvdc → Small 15 uvac
+pub bitstream-done : (q ydc y2dc y2ac uvdc uvac : ℤ) (l : List ℤ) → Small 254 q → Small 15 ydc → Small 15 y2dc → Small 15 y2ac → Small 15 uvdc → Small 15 uvac
     → length l ≡ 400
-    → let f = factorsGiven (pos n) ydc y2dc y2ac uvdc uvac in
-    _≡_ {A = MbDequantFactors × List ℤ} (dequantiseAnswer (pos n) ydc y2dc y2ac uvdc uvac l) (f, mbDequantised f l)
+    → let f = factorsGiven q ydc y2dc y2ac uvdc uvac in
+    _≡_ {A = MbDequantFactors × List ℤ} (dequantiseAnswer q ydc y2dc y2ac uvdc uvac l) (f, mbDequantised f l)
 unfolding dequantiseAnswer
-bitstream-done n ydc y2dc y2ac uvdc uvac l h i j k m o e = rw (bitstream-sums n ydc y2dc y2ac uvdc uvac h i j k m o, eq-eqb (length l) 400 e)
+bitstream-done q ydc y2dc y2ac uvdc uvac l h i j k m o e = rw (bitstream-sums q ydc y2dc y2ac uvdc uvac h i j k m o, eq-eqb (length l) 400 e)

@@ -22,6 +22,8 @@ use Rattle.macroblock.proofs.neighbors.ChromaEdges.above.Reads as chrom
 use Rattle.macroblock.proofs.neighbors.ChromaEdges.above.Kinds as chroma-above-k
 use Rattle.macroblock.proofs.neighbors.MbNeighbors.absent.Reads as absent
 use Rattle.macroblock.proofs.neighbors.MbNeighbors.absent.Kinds as absent-k
+use Rattle.macroblock.proofs.reply.numbers.Reads as replies
+use Rattle.macroblock.proofs.reply.numbers.Kinds as replies-k
 use Rattle.macroblock.proofs.numbers.y_mode_number.Reads as y-mode-number
 use Rattle.macroblock.proofs.numbers.y_mode_number.Kinds as y-mode-number-k
 use Rattle.macroblock.proofs.numbers.uv_mode_number.Reads as uv-mode-number
@@ -65,6 +67,9 @@ chroma-above-one κs a x y s t = same
 
 pub absent-one : OneAnswer 0 absent-k.ps absent-k.r absent.Post
 absent-one κs a x y s t = same
+
+pub replies-one : OneAnswer 0 replies-k.ps replies-k.r replies.Post
+replies-one κs a x y s t = same
 
 pub y-mode-number-one : OneAnswer 0 y-mode-number-k.ps y-mode-number-k.r y-mode-number.Post
 y-mode-number-one κs a x y s t = same

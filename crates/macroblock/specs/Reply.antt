@@ -1,5 +1,6 @@
 -- The numbers of the replies; 6 is not used.
 use Prim.Native.Nat.{ℕ}
+use mathlib.Core.List.{List, [], _∷_}
 
 -- the result
 abbrev pub done : ℕ
@@ -32,3 +33,7 @@ outsidePicture = 7
 -- a byte is no mode's number
 abbrev pub unknownByte : ℕ
 unknownByte = 8
+
+-- all of them, in order
+unfoldable pub replies : List ℕ
+replies = done ∷ wrongLength ∷ outsidePlane ∷ bPred ∷ noSubModes ∷ indexSum ∷ outsidePicture ∷ unknownByte ∷ []

@@ -1,4 +1,6 @@
 // The numbers of the replies; 6 is not used. specs/Reply.antt has the same numbers under the same names.
+ghost use mathlib.Core.Path.{_≡_};
+ghost use Rattle.macroblock.specs.Reply.{replies};
 
 // Done: the result.
 pub const DONE: u32 = 0;
@@ -23,3 +25,19 @@ pub const OUTSIDE_PICTURE: u32 = 7;
 
 // A byte is no mode's number.
 pub const UNKNOWN_BYTE: u32 = 8;
+
+// All of them, in order.
+pub fn numbers() -> [u32; 8]
+    ensures { λ r. ⌜ r ≡ replies ⌝ }
+{
+    [
+        DONE,
+        WRONG_LENGTH,
+        OUTSIDE_PLANE,
+        B_PRED,
+        NO_SUB_MODES,
+        INDEX_SUM,
+        OUTSIDE_PICTURE,
+        UNKNOWN_BYTE,
+    ]
+}

@@ -17,7 +17,7 @@ pub fn clamp_qindex(q: i32) -> usize
         return 0;
     }
     if q > 127 {
-        return 127;
+        return QINDEX_RANGE - 1;
     }
     q as usize
 }

@@ -8,7 +8,7 @@ use crate::numbers::part_to_write;
 use crate::numbers::put_byte;
 use crate::numbers::shorts_part;
 use crate::scattered;
-use shelf::Job;
+use shelf_items::Job;
 
 // Whether all items are equal, and whether they are with one of them damaged.
 pub struct Verdict {

@@ -10,7 +10,7 @@ use crate::numbers::shorts_part_to_write;
 use crate::numbers::size;
 use macroblock::MbModes;
 use macroblock::MbNeighbors;
-use shelf::Job;
+use shelf_items::Job;
 
 // The macroblock that item i is. Each comes once, since 7 divides no still's number of macroblocks.
 fn macroblock_of(i: usize, n: usize) -> usize

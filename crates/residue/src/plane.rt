@@ -54,7 +54,7 @@ fn ac_free(input: [i16; 16]) -> bool
 fn dc_only(dc: i16) -> [i16; 16]
     ensures { λ r. ⌜ r ≡ idctDc dc ⌝ }
 {
-    let v = ((whole::widen(dc) + 4) >> 3) as i16;
+    let v = whole::narrow((whole::widen(dc) + 4) >> 3);
     [v; 16]
 }
 

@@ -17,8 +17,6 @@ use Rattle.lists.proofs.Pairs.{same-pair}
 use Rattle.shelf.proofs.shelf as shelf
 use Rattle.shelf.proofs.shelf_few.Reads as few
 use Rattle.shelf.proofs.shelf_few.Kinds as few-k
-use Rattle.shelf.proofs.shelf_bytes.Reads as bytes
-use Rattle.shelf.proofs.shelf_bytes.Kinds as bytes-k
 
 -- `shelf` lends a slice of structs, for which no `Reads` is made. Its clause is read here in any model of the logic, as it was generated: what the clause
 -- says of two answers to one call, put side by side, is that they are the same
@@ -38,7 +36,3 @@ module _ {M : Type 1} (𝓤 : URA M) (H : Heap 𝓤) (A : Atoms 𝓤) (mem : Mem
 pub shelf-few-one : OneAnswerIn 5 few-k.ps few-k.r few.Post {A = List ℕ × (List ℕ × List ℕ)}
     (λ κs s. (s .1 .1 .1 .1 .0 .now, (s .1 .1 .1 .1 .1 .0 .now, s .1 .1 .1 .1 .1 .1 .0 .now)))
 shelf-few-one κs a x y s t = same-pair
-
-pub shelf-bytes-one : OneAnswerIn 7 bytes-k.ps bytes-k.r bytes.Post {A = List ℕ × (List ℕ × List ℕ)}
-    (λ κs s. (s .1 .1 .1 .1 .0 .now, (s .1 .1 .1 .1 .1 .0 .now, s .1 .1 .1 .1 .1 .1 .0 .now)))
-shelf-bytes-one κs a x y s t = same-pair

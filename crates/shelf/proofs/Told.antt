@@ -1,5 +1,5 @@
--- The answers of the three calls, from the plan and what the turns left. Assumes nothing.
-use Prim.Native.Nat.{ℕ, _+_, _*_, _≤_}
+-- The answers of the two calls on jobs, from the plan and what the turns left. Assumes nothing.
+use Prim.Native.Nat.{ℕ, _+_, _*_, _<_, _≤_}
 use native.Mathlib.Nat.{le-of-lt, le-of-eq}
 use native.Mathlib.Omega.{arith}
 use borrow.Author.Tests.{ltb-true, ltb-false}
@@ -7,37 +7,59 @@ use mathlib.Core.Path.{_≡_, refl, sym, ap, _∙_}
 use mathlib.Core.Bool.{Bool, true, false}
 use mathlib.Core.List.{List, [], _∷_}
 use borrow.Rule.Slice.PartMut.{putMid}
-use lib.Dec.{eqb, ltb}
+use lib.Dec.{ltb}
 use lib.IntN.{ℤ}
 use lib.ListN.{length, getD, set, take}
 use lib.Seq.{length-take-le, take-all}
 use Rattle.lists.specs.Lists.{pick, _beside_}
+use Rattle.reconstruct.specs.declared.ReconstructedMb.{ReconstructedMb}
 use Rattle.drawing.specs.Drawn.{planesOf}
-use Rattle.shelf.specs.declared.Job.{Job}
-use Rattle.shelf.specs.declared.Plan.{Plan}
-use Rattle.shelf.specs.Shelf.{noJob, jobDrawn, jobAt, shelfAnswer, fewAnswer, bytesAt, bytesAnswer}
-use Rattle.shelf.specs.Steps.{planned, begun, atMost32}
-use Rattle.shelf.proofs.Turns.{outAfter, repliesAfter, countAfter, out-next, replies-next, count-next}
-use Rattle.shelf.proofs.Answered.{answered}
-use Rattle.shelf.proofs.Drawn.{jobs-shape, bytes-shape}
+use Rattle.shelf_items.specs.declared.Job.{Job}
+use Rattle.shelf_items.specs.declared.Plan.{Plan}
+use Rattle.shelf_items.specs.Shelf.{noJob, jobDrawn, jobAt, shelfAnswer, fewAnswer}
+use Rattle.shelf_items.specs.Steps.{planned, begun, hasPlace}
+use Rattle.shelf_items.proofs.Turns.{outAfter, repliesAfter, countAfter, out-next, replies-next, count-next}
+use Rattle.shelf_items.proofs.Answered.{answered, turn-ready}
+use Rattle.shelf_items.proofs.Places.{has-place}
+use Rattle.shelf_items.proofs.Drawn.{jobs-shape}
+use Rattle.shelf.specs.Few.{atMost32}
 
 -- ---- jobs
--- a turn's item is the job that was read
-module _ (jobs : List Job) (subs : List ℕ) (coeffs : List ℤ) (k : ℕ) (l : List ℕ) where
-  pub job-out-next : outAfter (jobAt jobs subs coeffs) (k + 1) l
-      ≡ putMid (384 * k) 384 (outAfter (jobAt jobs subs coeffs) k l) (planesOf (jobDrawn (getD jobs k noJob) subs coeffs k))
-  unfolding jobAt
-  job-out-next = out-next (jobAt jobs subs coeffs) k l
+-- a turn: item k has its places, and is the job that was read
+chosen : {b : Bool} {x y : List ℕ} (z : List ℕ) → b ≡ true → x ≡ y → x ≡ pick b y z
+chosen z e p = rw e p
 
-  pub job-reply-next : repliesAfter (jobAt jobs subs coeffs) (k + 1) l
-      ≡ set (repliesAfter (jobAt jobs subs coeffs) k l) k (jobDrawn (getD jobs k noJob) subs coeffs k .reply)
-  unfolding jobAt
-  job-reply-next = replies-next (jobAt jobs subs coeffs) k l
+module _ (jobs : List Job) (subs : List ℕ) (coeffs : List ℤ) (out replies clipped : List ℕ) (k : ℕ) where
+  abbrev item : ℕ → ReconstructedMb
+  item = jobAt jobs subs coeffs
 
-  pub job-count-next : countAfter (jobAt jobs subs coeffs) (k + 1) l
-      ≡ (getD (countAfter (jobAt jobs subs coeffs) k l) 0 0 + jobDrawn (getD jobs k noJob) subs coeffs k .clipped) ∷ []
-  unfolding jobAt
-  job-count-next = count-next (jobAt jobs subs coeffs) k l
+  abbrev start : List ℕ
+  start = begun (length jobs) (length subs) (length coeffs) (length out) (length replies) clipped
+
+  abbrev place : Bool
+  place = hasPlace k (length subs) (length coeffs) (length (outAfter item k out)) (length (repliesAfter item k replies)) (countAfter item k start)
+
+  module _ (l : k < planned (length jobs) (length subs) (length coeffs) (length out) (length replies) (length clipped) .items)
+      (eo : length (outAfter item k out) ≡ length out) (er : length (repliesAfter item k replies) ≡ length replies) where
+    there : place ≡ true
+    there =
+        has-place k (length subs) (length coeffs) (length (outAfter item k out)) (length (repliesAfter item k replies)) (countAfter item k start)
+        (turn-ready item (jobs-shape jobs subs coeffs) (length jobs) (length subs) (length coeffs) (length out) (length replies) clipped refl k l eo er refl refl)
+
+    pub job-out-next : outAfter item (k + 1) out
+        ≡ pick place (putMid (384 * k) 384 (outAfter item k out) (planesOf (jobDrawn (getD jobs k noJob) subs coeffs k))) (outAfter item k out)
+    unfolding jobAt
+    job-out-next = chosen (outAfter item k out) there (out-next item k out)
+
+    pub job-reply-next : repliesAfter item (k + 1) replies
+        ≡ pick place (set (repliesAfter item k replies) k (jobDrawn (getD jobs k noJob) subs coeffs k .reply)) (repliesAfter item k replies)
+    unfolding jobAt
+    job-reply-next = chosen (repliesAfter item k replies) there (replies-next item k replies)
+
+    pub job-count-next : countAfter item (k + 1) start
+        ≡ pick place ((getD (countAfter item k start) 0 0 + jobDrawn (getD jobs k noJob) subs coeffs k .clipped) ∷ []) (countAfter item k start)
+    unfolding jobAt
+    job-count-next = chosen (countAfter item k start) there (count-next item k start)
 
 module _ (jobs : List Job) (subs : List ℕ) (coeffs : List ℤ) (out replies clipped : List ℕ) where
   pub jobs-told : (n : ℕ) → length jobs ≡ n → {p : Plan} {o r c : List ℕ}
@@ -77,26 +99,3 @@ module _ (count : ℕ) (all : List Job) (subs : List ℕ) (coeffs : List ℤ) (o
       → t ≡ fewAnswer all count subs coeffs out replies clipped
   unfolding fewAnswer
   few-told e = e ∙ ap (λ (jobs : List Job). shelfAnswer jobs subs coeffs out replies clipped) (front-same count all n)
-
--- ---- bytes
-module _ (modes records subs : List ℕ) (coeffs : List ℤ) (out replies clipped : List ℕ) where
-  pub no-modes : eqb (length modes) (3 * length replies) ≡ false
-      → (1 beside out beside replies beside clipped) ≡ bytesAnswer modes records subs coeffs out replies clipped
-  unfolding bytesAnswer
-  no-modes e = rw e refl
-
-  pub no-records : eqb (length modes) (3 * length replies) ≡ true → eqb (length records) (81 * length replies) ≡ false
-      → (1 beside out beside replies beside clipped) ≡ bytesAnswer modes records subs coeffs out replies clipped
-  unfolding bytesAnswer
-  no-records e f = rw (e, f) refl
-
-  pub bytes-told : eqb (length modes) (3 * length replies) ≡ true → eqb (length records) (81 * length replies) ≡ true → {p : Plan} {o r c : List ℕ}
-      → p ≡ planned (length replies) (length subs) (length coeffs) (length out) (length replies) (length clipped)
-      → o ≡ outAfter (bytesAt modes records subs coeffs) (p .items) out
-      → r ≡ repliesAfter (bytesAt modes records subs coeffs) (p .items) replies
-      → c ≡ countAfter (bytesAt modes records subs coeffs) (p .items) (begun (length replies) (length subs) (length coeffs) (length out) (length replies) clipped)
-      → (p .reply beside o beside r beside c) ≡ bytesAnswer modes records subs coeffs out replies clipped
-  unfolding bytesAnswer
-  bytes-told em ef e eo er ec =
-      rw (eo, er, ec, e, em, ef)
-      (answered (bytesAt modes records subs coeffs) (bytes-shape modes records subs coeffs) (length replies) (length subs) (length coeffs) out replies clipped)

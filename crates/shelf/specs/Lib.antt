@@ -1,3 +1,2 @@
--- A shelf of loose macroblocks.
-pub mod Shelf
-pub mod Steps
+-- The front of 32 jobs.
+pub mod Few

@@ -6,8 +6,8 @@ use mathlib.Core.List.{List}
 use lib.IntN.{ℤ}
 use lib.ListN.{getD}
 use Rattle.lists.specs.Lists.{itemOf}
-use Rattle.shelf.specs.declared.Job.{Job}
-use Rattle.shelf.specs.Shelf.{noJob, jobDrawn, jobAt, bytesAt}
+use Rattle.shelf_items.specs.declared.Job.{Job}
+use Rattle.shelf_items.specs.Shelf.{noJob, jobDrawn, jobAt, bytesAt}
 
 pub jobs-apart : (k : ℕ) (jobs others : List Job) (subs bytes : List ℕ) (coeffs numbers : List ℤ) → getD jobs k noJob ≡ getD others k noJob
     → itemOf 16 k subs ≡ itemOf 16 k bytes → itemOf 400 k coeffs ≡ itemOf 400 k numbers → jobAt jobs subs coeffs k ≡ jobAt others bytes numbers k

@@ -13,8 +13,8 @@ use Rattle.lists.proofs.Pairs.{pair}
 use Rattle.lists.proofs.Total.{total-ext}
 use Rattle.reconstruct.specs.declared.ReconstructedMb.{ReconstructedMb}
 use Rattle.drawing.specs.Drawn.{planesOf}
-use Rattle.shelf.specs.Shelf.{shelved}
-use Rattle.shelf.proofs.Turns.{joined-length}
+use Rattle.shelf_items.specs.Shelf.{shelved}
+use Rattle.shelf_items.proofs.Turns.{joined-length}
 
 -- ---- shelves of equal items are equal
 joined-ext : (n : ℕ) (f g : ℕ → List ℕ) → ((k : ℕ) → k < n → f k ≡ g k) → joined n f ≡ joined n g

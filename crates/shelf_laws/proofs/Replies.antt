@@ -15,8 +15,8 @@ use Rattle.macroblock.specs.declared.neighbors.MbNeighbors.{MbNeighbors}
 use Rattle.rfc6386.specs.Edges.{isB}
 use Rattle.reconstruct.specs.Answers.{refusal, wholeOf, partsOf, nonB, walkB}
 use Rattle.drawing.specs.Drawn.{planesOf, subModesOf, drawnB, drawnIn, drawnWith}
-use Rattle.shelf.specs.declared.Job.{Job}
-use Rattle.shelf.specs.Shelf.{jobDrawn}
+use Rattle.shelf_items.specs.declared.Job.{Job}
+use Rattle.shelf_items.specs.Shelf.{jobDrawn}
 
 -- what a refused item writes
 pub refused-zeros : (number : ℕ) → planesOf (refusal number) ≡ replicate 384 0

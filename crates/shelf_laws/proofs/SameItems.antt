@@ -14,8 +14,8 @@ use Rattle.record_bytes.specs.Bytes.{marksKnown}
 use Rattle.reconstruct.specs.declared.ReconstructedMb.{ReconstructedMb}
 use Rattle.reconstruct.specs.Answers.{refusal}
 use Rattle.drawing.specs.Drawn.{modesKnown, drawnWith, drawn, drawnBytes}
-use Rattle.shelf.specs.declared.Job.{Job}
-use Rattle.shelf.specs.Shelf.{noJob, jobDrawn, jobAt, shelfAnswer, bytesAt, bytesAnswer}
+use Rattle.shelf_items.specs.declared.Job.{Job}
+use Rattle.shelf_items.specs.Shelf.{noJob, jobDrawn, jobAt, shelfAnswer, bytesAt, bytesAnswer}
 use Rattle.shelf_laws.specs.Words.{jobOf, jobsOf, Known}
 use Rattle.shelf_laws.proofs.Items.{shelved-ext}
 

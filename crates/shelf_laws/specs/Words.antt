@@ -7,7 +7,7 @@ use lib.ListN.{getD}
 use Rattle.lists.specs.Lists.{table, itemOf}
 use Rattle.record_bytes.specs.Bytes.{marksKnown, recordOf}
 use Rattle.drawing.specs.Drawn.{modesKnown, modesOf}
-use Rattle.shelf.specs.declared.Job.{Job}
+use Rattle.shelf_items.specs.declared.Job.{Job}
 
 -- the job of an item's mode bytes and record bytes
 unfoldable pub jobOf : List ℕ → List ℕ → ℕ → Job

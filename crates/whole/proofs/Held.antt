@@ -4,14 +4,14 @@
 --     elem16           an element of an array of 16-bit numbers, from what is known of the array: `elem16 (c .args .xs) (c .good .0 .0) k (c .good .0 .1 .1)`
 --     add64 ..         two 32-bit numbers: their sum, difference and product fit 64 bits
 -- Assumes nothing.
-use Prim.Native.Nat.{ℕ, zero, suc, _^_, _≤_, _<_}
+use Prim.Native.Nat.{ℕ, zero, suc, _^_, _/_, _≤_, _<_}
 use native.Mathlib.Omega.{arith}
 use native.Mathlib.Nat.{mul-le-mul, lt-of-le-of-lt}
 use mathlib.Core.Path.{_≡_}
 use mathlib.Core.List.{List, [], _∷_}
-use lib.IntN.{ℤ, pos, negsuc, natAbs, _+ℤ_, _-ℤ_, _*ℤ_}
+use lib.IntN.{ℤ, pos, negsuc, natAbs, negℤ, _+ℤ_, _-ℤ_, _*ℤ_}
 use lib.ListN.{getD}
-use lib.Signed.{mag, shrZ, natAbs-le, mag-shr}
+use lib.Signed.{mag, quotZ, shrZ, natAbs-le, mag-shr}
 use lib.Dec.{lit<}
 use denote.Array.{each}
 use denote.Shadow.{shadow}
@@ -59,6 +59,18 @@ shr-back m f = rw (toZ-ofZ f) (toZ-ofZ (shr-fits m f))
 
 pub shr-held : (z : ℤ) (m : ℕ) → mag z < 2147483648 → R32 (shrZ (R32 z) m) ≡ shrZ z m
 shr-held z m h = shr-back {w = w32} {z = z} m (record { sfits = h })
+
+-- ---- an eighth rounded toward zero fits. No function divides so: a wrong program that does is refused for what it returns, and not for this
+opposite : (m : ℕ) → m < 2147483648 → SFits w32 (negℤ (pos m))
+opposite zero h = record { sfits = lit< tt }
+opposite (suc m) h = record { sfits = omega (arith, h) }
+
+pub eighth-fits : (z : ℤ) → mag z < 2147483648 → (0 < 8) × SFits w32 (quotZ (R32 z) (pos 8))
+eighth-fits z h = rw (held32 z h) (lit< tt, by z h)
+  where
+    by : (z : ℤ) → mag z < 2147483648 → SFits w32 (quotZ z (pos 8))
+    by (pos n) h = record { sfits = omega (arith, h) }
+    by (negsuc n) h = opposite (suc n / 8) (omega (arith, h))
 
 -- ---- after a cast from 32 bits to 64
 pub wider : {z : ℤ} → SFits w32 z → SFits w64 (R32 z)

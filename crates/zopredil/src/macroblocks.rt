@@ -1,7 +1,7 @@
 // Macroblocks from their bytes, drawn one in a call and as a shelf; a neighbour record is 81 bytes.
 ghost use mathlib.Core.Path.{_≡_};
 ghost use Rattle.lists.specs.Lists.{_beside_};
-ghost use Rattle.shelf.specs.Shelf.{bytesAnswer};
+ghost use Rattle.shelf_items.specs.Shelf.{bytesAnswer};
 ghost use Rattle.zopredil.specs.Macroblocks.{subModesFit, lengthsFit, mbAnswer};
 use macroblock::reply;
 
@@ -97,7 +97,7 @@ pub extern "C" fn zopredil_macroblock(
     drawn.reply
 }
 
-// A shelf of loose macroblocks: `shelf::shelf_bytes`.
+// A shelf of loose macroblocks: `shelf_items::shelf_bytes`.
 #[no_mangle]
 pub extern "C" fn zopredil_shelf(
     modes: &[u8],
@@ -112,5 +112,5 @@ pub extern "C" fn zopredil_shelf(
         ≡ bytesAnswer (now (modes .entry)) (now (records .entry)) (now («sub_modes» .entry)) (now (coeffs .entry))
         (now (out .entry)) (now (replies .entry)) (now (clipped .entry)) ⌝ }
 {
-    shelf::shelf_bytes(modes, records, sub_modes, coeffs, out, replies, clipped)
+    shelf_items::shelf_bytes(modes, records, sub_modes, coeffs, out, replies, clipped)
 }

@@ -32,4 +32,4 @@ unfolding clampIndex
 returns-3 c = rw (kept c)
 
 pub clamp-qindex-spec : {M : Type 1} → statement M
-clamp-qindex-spec = tie.close (tie.spec returns returns-2 cast-result returns-3)
+clamp-qindex-spec = tie.close (tie.spec returns (λ c. omega arith) returns-2 cast-result returns-3)

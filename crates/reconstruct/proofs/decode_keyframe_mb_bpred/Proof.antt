@@ -1,13 +1,26 @@
 -- `reconstruct::decode_keyframe_mb_bpred` meets its contract: by its two tests. Assumes nothing.
-use borrow.Author.Tests.{eq-eqb, ne-eqb, not-true, not-false}
-use Rattle.reconstruct.specs.Answers.{walkB}
+use mathlib.Core.Path.{_≡_, refl, _∙_}
+use mathlib.Core.Bool.{Bool, false}
+use mathlib.Core.List.{List}
 use borrow.Author.Needs.{needs}
+use borrow.Author.Tests.{eq-eqb, ne-eqb, not-true, not-false}
+use lib.IntN.{ℤ}
+use Rattle.macroblock.specs.Reply.{noSubModes}
+use Rattle.macroblock.specs.declared.modes.IntraBmode.{IntraBmode}
+use Rattle.macroblock.specs.declared.modes.MbModes.{MbModes}
+use Rattle.macroblock.specs.declared.neighbors.MbNeighbors.{MbNeighbors}
+use Rattle.reconstruct.specs.Answers.{refusal, walkB}
 use Rattle.reconstruct.proofs.decode_keyframe_mb_bpred.Statement.{statement}
 use Rattle.reconstruct.proofs.decode_keyframe_mb_bpred.Tie as tie
 
-returns : tie.Need-returns
+-- without sub-block modes it is refused before the length is looked at
+none-first : (modes : List IntraBmode) (there : Bool) (m : MbModes) (n : MbNeighbors) (coeffs : List ℤ) → there ≡ false
+    → refusal noSubModes ≡ walkB modes there m n coeffs
 unfolding walkB
-returns c = rw (not-true (c .before .before .args .sub-modes-there) (c .before .if1 .taken)) (c .refused .ensures)
+none-first modes there m n coeffs e = rw e refl
+
+returns : tie.Need-returns
+returns c = c .refused .ensures ∙ none-first _ _ _ _ _ (not-true _ (c .before .if1 .taken))
 
 returns-2 : tie.Need-returns-2
 unfolding walkB

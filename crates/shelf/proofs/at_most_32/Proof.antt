@@ -1,7 +1,7 @@
 -- `shelf::at_most_32` meets its contract. Assumes nothing.
 use mathlib.Core.Path.{refl}
 use borrow.Author.Tests.{lt-ltb, le-ltb}
-use Rattle.shelf.specs.Steps.{atMost32}
+use Rattle.shelf.specs.Few.{atMost32}
 use Rattle.shelf.proofs.at_most_32.Statement.{statement}
 use Rattle.shelf.proofs.at_most_32.Tie as tie
 

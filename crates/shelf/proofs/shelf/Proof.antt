@@ -142,28 +142,28 @@ use denote.Triple.Table.{entered, cited}
 use denote.Triple.Walked.{says, Stays, stay-none-slice, stay-slice, walkOf, goes-none-slice, goes-slice, Walks, ends-at, walked, walk-meets}
 use denote.Exit.{yes}
 use borrow.Rule.Slice.PartMut.{putMid}
+use Rattle.lists.specs.Lists.{pick as either}
 use Rattle.drawing.specs.Drawn.{planesOf}
-use Rattle.shelf.specs.Shelf.{noJob, jobDrawn, jobAt}
-use Rattle.shelf.specs.Steps.{planned, begun}
-use Rattle.shelf.proofs.Turns.{outAfter, repliesAfter, countAfter, out-zero, replies-zero, count-zero}
-use Rattle.shelf.proofs.Answered.{items-≤, begun-keeps, turn-ready}
-use Rattle.shelf.proofs.Drawn.{jobs-shape}
+use Rattle.shelf_items.specs.Shelf.{noJob, jobDrawn, jobAt}
+use Rattle.shelf_items.specs.Steps.{planned, begun, hasPlace}
+use Rattle.shelf_items.proofs.Turns.{outAfter, repliesAfter, countAfter, out-zero, replies-zero, count-zero}
+use Rattle.shelf_items.proofs.Answered.{items-≤, begun-keeps}
 use Rattle.shelf.proofs.Told.{job-out-next, job-reply-next, job-count-next, jobs-told}
-use Rattle.shelf.specs.declared.Job.{Job}
-use Rattle.shelf.specs.declared.Plan.{Plan}
-use Rattle.shelf.proofs.Job as T
-use Rattle.shelf.proofs.Job.Laws as T′
-use Rattle.shelf.proofs.Plan as P
-use Rattle.shelf.proofs.Plan.Laws as P′
+use Rattle.shelf_items.specs.declared.Job.{Job}
+use Rattle.shelf_items.specs.declared.Plan.{Plan}
+use Rattle.shelf_items.proofs.Job as T
+use Rattle.shelf_items.proofs.Job.Laws as T′
+use Rattle.shelf_items.proofs.Plan as P
+use Rattle.shelf_items.proofs.Plan.Laws as P′
 use Rattle.shelf.proofs.Again.{LentAgain, lends-again, comes-back}
-use Rattle.shelf.proofs.begin as plan-fn
-use Rattle.shelf.proofs.begin.Symbol as plan-fn-def
-use Rattle.shelf.proofs.begin.Symbol.{name as #shelf·begin}
-use Rattle.shelf.proofs.begin.Met as plan-fn-thm
-use Rattle.shelf.proofs.put_job as one-fn
-use Rattle.shelf.proofs.put_job.Symbol as one-fn-def
-use Rattle.shelf.proofs.put_job.Symbol.{name as #shelf·put-job}
-use Rattle.shelf.proofs.put_job.Met as one-fn-thm
+use Rattle.shelf_items.proofs.begin as plan-fn
+use Rattle.shelf_items.proofs.begin.Symbol as plan-fn-def
+use Rattle.shelf_items.proofs.begin.Symbol.{name as #shelf-items·begin}
+use Rattle.shelf_items.proofs.begin.Met as plan-fn-thm
+use Rattle.shelf_items.proofs.put_job as one-fn
+use Rattle.shelf_items.proofs.put_job.Symbol as one-fn-def
+use Rattle.shelf_items.proofs.put_job.Symbol.{name as #shelf-items·put-job}
+use Rattle.shelf_items.proofs.put_job.Met as one-fn-thm
 use Rattle.shelf.proofs.shelf.Key.{name as #shelf·shelf}
 use Rattle.shelf.proofs.shelf as run-fn
 use Rattle.shelf.proofs.shelf.Statement as stated
@@ -507,16 +507,15 @@ module _ {M : Type 1} (𝓤 : URA M) (H : Heap 𝓤) (A : Atoms 𝓤) (W : Given
           (x-coeffs) (sliceVal (b₂, o₂) (length zs₂) ∷ [])) ∷ ‵ (flft κ₂ q₂) ∷ ‵ (MutSlice (named 2) (ν₀ ∷ []) u8 .own (at-out δ₀ cur-out)
           (sliceVal (b₃, o₃) (length zs₃) ∷ [])) ∷ ‵ (flft (ν₀ ∷ []) fullShare) ∷ ‵ (MutSlice (named 3) (ν₁ ∷ []) u8 .own (at-replies δ₁
           cur-replies) (sliceVal (b₄, o₄) (length zs₄) ∷ [])) ∷ ‵ (flft (ν₁ ∷ []) fullShare) ∷ ‵ (MutSlice (named 4) (ν₂ ∷ []) u64 .own (at-clipped
-          δ₂ cur-clipped) (sliceVal (b₅, o₅) (length zs₅) ∷ [])) ∷ ‵ (flft (ν₂ ∷ []) fullShare) ∷ []) ∵ says ! (turn-ready (jobAt zs₀ zs₁ zs₂)
-          (jobs-shape zs₀ zs₁ zs₂) (length zs₀) (length zs₁) (length zs₂) (length zs₃) (length zs₄) zs₅ refl (i .0) l (i .2) (i .3) refl refl) $
-          nothing ! $ move ! (10 ∷ 0 ∷ []) $ join ! $ move ! (8 ∷ 0 ∷ []) $ join ! $ move ! (6 ∷ 0 ∷ []) $ join ! $ move ! (4 ∷ 0 ∷ []) $ join ! $
-          move ! (2 ∷ 0 ∷ []) $ join ! $
+          δ₂ cur-clipped) (sliceVal (b₅, o₅) (length zs₅) ∷ [])) ∷ ‵ (flft (ν₂ ∷ []) fullShare) ∷ []) ∵ nothing ! $ move ! (10 ∷ 0 ∷ []) $ join ! $
+          move ! (8 ∷ 0 ∷ []) $ join ! $ move ! (6 ∷ 0 ∷ []) $ join ! $ move ! (4 ∷ 0 ∷ []) $ join ! $ move ! (2 ∷ 0 ∷ []) $ join ! $
           nothing ! $ owned ! usize (Is usize) (uint-makes 𝓤 H A W w64) (i .0) _ (refl, i-fits) $ fjoin ! $ move ! (6 ∷ 0 ∷ []) $ fjoin ! $ move ! (5 ∷
           0 ∷ []) $ fjoin ! $ move ! (4 ∷ 0 ∷ []) $ fjoin ! $ move ! (3 ∷ 0 ∷ []) $ fjoin ! $ move ! (2 ∷ 0 ∷ []) $ fjoin ! $
-          owned ! T.the-row (Is T.the-row) (LL.makes T.the-type T′.the-plain 𝓤 H A) elem _ is $ fjoin ! $ move ! (1 ∷ 0 ∷ []) $ frame ! $ done !
+          owned ! T.the-row (Is T.the-row) (LL.makes T.the-type T′.the-plain 𝓤 H A) elem _ is $ fjoin ! $ move ! (1 ∷ 0 ∷ []) $ join ! $ frame ! $ done
+          !
 
-    module _ (𝓣 : Tables 𝓤 H) (known-one : Triple 𝓤 (𝓣 .C #shelf·put-job) (One 𝓤 H A mem run)) (fits : todo .reply < 2 ^ 32) (l₀ l₁ l₂ l₃ l₄ l₅ l₆ l₇
-        l₈ l₉ l₁₀ l₁₁ l₁₂ l₁₃ l₁₄ l₁₅ l₁₆ l₁₇ l₁₈ l₁₉ l₂₀ l₂₁ l₂₂ l₂₃ l₂₄ l₂₅ l₂₆ l₂₇ : ℕ) where
+    module _ (𝓣 : Tables 𝓤 H) (known-one : Triple 𝓤 (𝓣 .C #shelf-items·put-job) (One 𝓤 H A mem run)) (fits : todo .reply < 2 ^ 32) (l₀ l₁ l₂ l₃ l₄ l₅
+        l₆ l₇ l₈ l₉ l₁₀ l₁₁ l₁₂ l₁₃ l₁₄ l₁₅ l₁₆ l₁₇ l₁₈ l₁₉ l₂₀ l₂₁ l₂₂ l₂₃ l₂₄ l₂₅ l₂₆ l₂₇ : ℕ) where
       abbrev C : Calls 𝓤 H
       C = 𝓣 .C
 
@@ -724,12 +723,18 @@ module _ {M : Type 1} (𝓤 : URA M) (H : Heap 𝓤) (A : Atoms 𝓤) (W : Given
                 ),
               ),
             ),
-          ) ws) ⊛ raw (fact 𝓤 ((ws .1 .1 .1 .0 ≡ putMid (384 * (i .0)) 384 (cur-out i l)
-          (planesOf (jobDrawn (elem i l) zs₁ zs₂ (i .0)))) × (ws .1 .1 .1 .1 .0 ≡ set (cur-replies i l) (i .0) (jobDrawn (elem i l) zs₁ zs₂ (i .0)
-          .reply)) × (ws .1 .1 .1 .1 .1 .0 ≡ ((getD (cur-clipped i l) 0 0 + jobDrawn (elem i l) zs₁ zs₂ (i .0) .clipped) ∷ [])))))) (id⊢ 𝓤 _) $
-          pick ! (λ ws. split ! $ move ! (1 ∷ []) $ heard ! ((ws .1 .1 .1 .0 ≡ putMid (384 * (i .0)) 384 (cur-out i l) (planesOf (jobDrawn (elem i
-          l) zs₁ zs₂ (i .0)))) × (ws .1 .1 .1 .1 .0 ≡ set (cur-replies i l) (i .0) (jobDrawn (elem i l) zs₁ zs₂ (i .0) .reply)) × (ws .1 .1 .1 .1
-          .1 .0 ≡ ((getD (cur-clipped i l) 0 0 + jobDrawn (elem i l) zs₁ zs₂ (i .0) .clipped) ∷ []))) (λ e.
+          ) ws) ⊛ raw (fact 𝓤 ((ws .1 .1 .1 .0 ≡ either (hasPlace (i .0) (length zs₁) (length
+          zs₂) (length (cur-out i l)) (length (cur-replies i l)) (cur-clipped i l)) (putMid (384 * (i .0)) 384 (cur-out i l) (planesOf (jobDrawn
+          (elem i l) zs₁ zs₂ (i .0)))) (cur-out i l)) × (ws .1 .1 .1 .1 .0 ≡ either (hasPlace (i .0) (length zs₁) (length zs₂) (length (cur-out i
+          l)) (length (cur-replies i l)) (cur-clipped i l)) (set (cur-replies i l) (i .0) (jobDrawn (elem i l) zs₁ zs₂ (i .0) .reply)) (cur-replies
+          i l)) × (ws .1 .1 .1 .1 .1 .0 ≡ either (hasPlace (i .0) (length zs₁) (length zs₂) (length (cur-out i l)) (length (cur-replies i l))
+          (cur-clipped i l)) ((getD (cur-clipped i l) 0 0 + jobDrawn (elem i l) zs₁ zs₂ (i .0) .clipped) ∷ []) (cur-clipped i l)))))) (id⊢ 𝓤 _) $
+          pick ! (λ ws. split ! $ move ! (1 ∷ []) $ heard ! ((ws .1 .1 .1 .0 ≡ either (hasPlace (i .0) (length zs₁) (length zs₂) (length (cur-out i
+          l)) (length (cur-replies i l)) (cur-clipped i l)) (putMid (384 * (i .0)) 384 (cur-out i l) (planesOf (jobDrawn (elem i l) zs₁ zs₂ (i
+          .0)))) (cur-out i l)) × (ws .1 .1 .1 .1 .0 ≡ either (hasPlace (i .0) (length zs₁) (length zs₂) (length (cur-out i l)) (length
+          (cur-replies i l)) (cur-clipped i l)) (set (cur-replies i l) (i .0) (jobDrawn (elem i l) zs₁ zs₂ (i .0) .reply)) (cur-replies i l)) × (ws
+          .1 .1 .1 .1 .1 .0 ≡ either (hasPlace (i .0) (length zs₁) (length zs₂) (length (cur-out i l)) (length (cur-replies i l)) (cur-clipped i
+          l)) ((getD (cur-clipped i l) 0 0 + jobDrawn (elem i l) zs₁ zs₂ (i .0) .clipped) ∷ []) (cur-clipped i l))) (λ e.
           fsplit ! $ drop ! $ fsplit ! $ drop ! $ fsplit ! $ drop ! $ fsplit ! $ fsplit ! $ move ! (1 ∷ []) $ feqL ! (λ len-out. move ! (1 ∷ []) $
           fsplit ! $ fsplit ! $ move ! (1 ∷ []) $ feqL ! (λ len-replies. move ! (1 ∷ []) $ fsplit ! $ fsplit ! $ move ! (1 ∷ []) $ feqL ! (λ
           len-clipped. move ! (1 ∷ []) $ drop ! $
@@ -743,19 +748,19 @@ module _ {M : Type 1} (𝓤 : URA M) (H : Heap 𝓤) (A : Atoms 𝓤) (W : Given
           (cur-out i l) δ₀ (ws .1 .1 .1 .0) (subst (Room u8) (sym (i .2)) g-out) len-out) $ await ! tt $ split ! $
           rewrite ! 0 (λ (n : ℕ). ‵ (MutSlice (named 3) κ₃ u8 .own (at-out γ₃ (ws .1 .1 .1 .0)) (sliceVal (b₃, o₃) n ∷ []))) (i .2) refl $ rewrite ! 0
           (λ (q : List ℕ). ‵ (MutSlice (named 3) κ₃ u8 .own (at-out γ₃ q) (sliceVal (b₃, o₃) (length zs₃) ∷ []))) (e .0 ∙ sym (job-out-next zs₀ zs₁
-          zs₂ (i .0) zs₃)) refl $
+          zs₂ zs₃ zs₄ zs₅ (i .0) l (i .2) (i .3))) refl $
           move ! (3 ∷ []) $ lft-end ! tt $ move ! (0 ∷ 11 ∷ 7 ∷ []) $ use3 W (later (‵ (MutSlice (named 4) κ₄ u8 .own (at-replies γ₄ (ws .1 .1 .1 .1
           .0)) (sliceVal (b₄, o₄) (length (cur-replies i l)) ∷ [])) ⊛ ‵ (flft κ₄ q₄))) (comes-back u8 κ₄ (ν₁ ∷ []) q₄ γ₄ b₄ o₄ 𝓤 H A W (named 4)
           (named 3) (cur-replies i l) δ₁ (ws .1 .1 .1 .1 .0) (subst (Room u8) (sym (i .3)) g-replies) len-replies) $ await ! tt $ split ! $
           rewrite ! 0 (λ (n : ℕ). ‵ (MutSlice (named 4) κ₄ u8 .own (at-replies γ₄ (ws .1 .1 .1 .1 .0)) (sliceVal (b₄, o₄) n ∷ []))) (i .3) refl $
           rewrite ! 0 (λ (q : List ℕ). ‵ (MutSlice (named 4) κ₄ u8 .own (at-replies γ₄ q) (sliceVal (b₄, o₄) (length zs₄) ∷ []))) (e .1 ∙ sym
-          (job-reply-next zs₀ zs₁ zs₂ (i .0) zs₄)) refl $
+          (job-reply-next zs₀ zs₁ zs₂ zs₃ zs₄ zs₅ (i .0) l (i .2) (i .3))) refl $
           move ! (4 ∷ []) $ lft-end ! tt $ move ! (0 ∷ 10 ∷ 7 ∷ []) $ use3 W (later (‵ (MutSlice (named 5) κ₅ u64 .own (at-clipped γ₅ (ws .1 .1 .1 .1
           .1 .0)) (sliceVal (b₅, o₅) (length (cur-clipped i l)) ∷ [])) ⊛ ‵ (flft κ₅ q₅))) (comes-back u64 κ₅ (ν₂ ∷ []) q₅ γ₅ b₅ o₅ 𝓤 H A W (named
           5) (named 4) (cur-clipped i l) δ₂ (ws .1 .1 .1 .1 .1 .0) (subst (Room u64) (sym (i .4)) g-clipped) len-clipped) $ await ! tt $ split ! $
           rewrite ! 0 (λ (n : ℕ). ‵ (MutSlice (named 5) κ₅ u64 .own (at-clipped γ₅ (ws .1 .1 .1 .1 .1 .0)) (sliceVal (b₅, o₅) n ∷ []))) (i .4) refl $
           rewrite ! 0 (λ (q : List ℕ). ‵ (MutSlice (named 5) κ₅ u64 .own (at-clipped γ₅ q) (sliceVal (b₅, o₅) (length zs₅) ∷ []))) (e .2 ∙ sym
-          (job-count-next zs₀ zs₁ zs₂ (i .0) (begun (length zs₀) (length zs₁) (length zs₂) (length zs₃) (length zs₄) zs₅))) refl $
+          (job-count-next zs₀ zs₁ zs₂ zs₃ zs₄ zs₅ (i .0) l (i .2) (i .3))) refl $
           assigns-last ! (bin ! (load ! (from ! (stop !)) (look ! 50 refl)) (lit ! tt) (record { fits = next-fits })) (from ! (stop !)) (store ! 50
           refl (tt, record { fits = next-fits })) $
           forget ! 14 refl $ forget ! 16 refl $ forget ! 18 refl $ forget ! 20 refl $ forget ! 22 refl $ forget ! 24 refl $ forget ! 26 refl $ forget !
@@ -764,11 +769,11 @@ module _ {M : Type 1} (𝓤 : URA M) (H : Heap 𝓤) (A : Atoms 𝓤) (W : Given
             i .0 + 1,
             add-one-le l,
             ap length
-                (job-out-next zs₀ zs₁ zs₂ (i .0) zs₃ ∙ sym (e .0)) ∙ len-out ∙ i .2,
-            ap length (job-reply-next zs₀ zs₁ zs₂ (i .0) zs₄ ∙ sym (e .1)) ∙
-                len-replies ∙ i .3,
-            ap length (job-count-next zs₀ zs₁ zs₂ (i .0) (begun (length zs₀) (length zs₁) (length zs₂) (length zs₃) (length zs₄)
-                zs₅) ∙ sym (e .2)) ∙ len-clipped ∙ i .4,
+                (job-out-next zs₀ zs₁ zs₂ zs₃ zs₄ zs₅ (i .0) l (i .2) (i .3) ∙ sym (e .0)) ∙ len-out ∙ i .2,
+            ap length (job-reply-next zs₀ zs₁ zs₂ zs₃
+                zs₄ zs₅ (i .0) l (i .2) (i .3) ∙ sym (e .1)) ∙ len-replies ∙ i .3,
+            ap length (job-count-next zs₀ zs₁ zs₂ zs₃ zs₄ zs₅ (i .0) l (i .2) (i
+                .3) ∙ sym (e .2)) ∙ len-clipped ∙ i .4,
           ) (add-one-dec m (i .0) l)))))))))))))))))
         where
           within : i .0 < length zs₀
@@ -797,7 +802,7 @@ module _ {M : Type 1} (𝓤 : URA M) (H : Heap 𝓤) (A : Atoms 𝓤) (W : Given
       looped : Sq W (At start) (runs C Λ En mir.t-11 (atRet En Post))
       looped = first ! $ blocks ! $ loops ! 𝓣 Nearer Nearer-wf At each start
 
-    walk : (𝓣 : Tables 𝓤 H) → Triple 𝓤 (𝓣 .C #shelf·begin) (Planned 𝓤 H A mem run) → Triple 𝓤 (𝓣 .C #shelf·put-job) (One 𝓤 H A mem run)
+    walk : (𝓣 : Tables 𝓤 H) → Triple 𝓤 (𝓣 .C #shelf-items·begin) (Planned 𝓤 H A mem run) → Triple 𝓤 (𝓣 .C #shelf-items·put-job) (One 𝓤 H A mem run)
         → ent 𝓤 (onEntry 𝓤 H A run-fn.signature (κ₀, (κ₁, (κ₂, (κ₃, (κ₄, (κ₅, tt)))))) (q₀, (q₁, (q₂, (q₃, (q₄, (q₅, tt)))))) a at) (WpFn 𝓤 H (𝓣 .C) (𝓣
         .Λ) code.function (sliceVal (b₀, o₀) (length zs₀) ∷ sliceVal (b₁, o₁) (length zs₁) ∷ sliceVal (b₂, o₂) (length zs₂) ∷ sliceVal (b₃, o₃)
         (length zs₃) ∷ sliceVal (b₄, o₄) (length zs₄) ∷ sliceVal (b₅, o₅) (length zs₅) ∷ []) Post)
@@ -928,8 +933,8 @@ module _ {M : Type 1} (𝓤 : URA M) (H : Heap 𝓤) (A : Atoms 𝓤) (W : Given
         l₉ l₁₀ l₁₁ l₁₂ l₁₃ l₁₄ l₁₅ l₁₆ l₁₇ l₁₈ l₁₉ l₂₀ l₂₁ l₂₂ l₂₃ l₂₄ l₂₅ l₂₆ l₂₇))))))))))))))))))))))))))))))))))))
 
 module _ {M : Type 1} (𝓤 : URA M) (H : Heap 𝓤) (A : Atoms 𝓤) (W : Given 𝓤 H A) (mem : Memory → SProp 𝓤) (run : Routine → Fun 𝓤) where
-  run-walks : (𝓣 : Tables 𝓤 H) → Triple 𝓤 (𝓣 .C #shelf·begin) (Planned 𝓤 H A mem run) → Triple 𝓤 (𝓣 .C #shelf·put-job) (One 𝓤 H A mem run) → Walks 𝓤
-      H A run-fn.ended stayed (WpFn 𝓤 H (𝓣 .C) (𝓣 .Λ) code.function) (run-fn.clauses 𝓤 H A mem run)
+  run-walks : (𝓣 : Tables 𝓤 H) → Triple 𝓤 (𝓣 .C #shelf-items·begin) (Planned 𝓤 H A mem run) → Triple 𝓤 (𝓣 .C #shelf-items·put-job) (One 𝓤 H A mem
+      run) → Walks 𝓤 H A run-fn.ended stayed (WpFn 𝓤 H (𝓣 .C) (𝓣 .Λ) code.function) (run-fn.clauses 𝓤 H A mem run)
   run-walks 𝓣 known-plan known-one = walked 𝓤 H A run-fn.ended stayed (run-fn.clauses 𝓤 H A mem run) (WpFn 𝓤 H (𝓣 .C) (𝓣 .Λ) code.function) (λ κs.
       (slice-vals, (slice-vals, (slice-vals, (slice-vals, (slice-vals, (slice-vals, tt))))))) (λ κs. (
         shr-slice-tells (named 0) (κs .0) T.the-row,
@@ -953,7 +958,7 @@ module _ {M : Type 1} (𝓤 : URA M) (H : Heap 𝓤) (A : Atoms 𝓤) (W : Given
       .1 .1 .0 .name) (a .1 .1 .1 .1 .1 .0 .now) (are .1 .1 .1 .1 .1 .0 .0 .1) 𝓣 known-plan known-one))
 
 run-meets : {M : Type 1} (𝓤 : URA M) (H : Heap 𝓤) (A : Atoms 𝓤) (W : Given 𝓤 H A) (mem : Memory → SProp 𝓤) (run : Routine → Fun 𝓤) (𝓣 : Tables 𝓤 H) →
-    Triple 𝓤 (𝓣 .C #shelf·begin) (Planned 𝓤 H A mem run) → Triple 𝓤 (𝓣 .C #shelf·put-job) (One 𝓤 H A mem run)
+    Triple 𝓤 (𝓣 .C #shelf-items·begin) (Planned 𝓤 H A mem run) → Triple 𝓤 (𝓣 .C #shelf-items·put-job) (One 𝓤 H A mem run)
     → Meets 𝓤 H A run-fn.signature (WpFn 𝓤 H (𝓣 .C) (𝓣 .Λ) code.function) (run-fn.spec 𝓤 H A mem run)
 run-meets 𝓤 H A W mem run 𝓣 known-plan known-one = walk-meets 𝓤 H A run-fn.ended stayed W (
   goes-none-slice 𝓤 H A W 6 (0 ∷ []) tt (plain (λ _.
@@ -983,6 +988,7 @@ shelf-spec 𝓤 H 𝓜 𝓖 𝓡 =
     entered 𝓤 H (tripleOf 𝓤 H (𝓖 .A) run-fn.signature (run-fn.spec 𝓤 H (𝓖 .A) (𝓜 .mem) (𝓡 .run)))
     (tables 𝓤 H 𝓜 𝓡 code.env .C) (tables 𝓤 H 𝓜 𝓡 code.env .Λ) #shelf·shelf code.function (code.unfolded 𝓤 H 𝓜 𝓡)
     (run-meets 𝓤 H (𝓖 .A) (givenOf 𝓤 H 𝓜 𝓖) (𝓜 .mem) (𝓡 .run) (tablesOf 𝓤 H 𝓜 (tables 𝓤 H 𝓜 𝓡 code.env))
-    (cited 𝓤 H (Planned 𝓤 H (𝓖 .A) (𝓜 .mem) (𝓡 .run)) 𝓜 𝓡 code.env #shelf·begin plan-fn-def.routine code.calls-shelf·begin (plan-fn-thm.met 𝓤 H 𝓜 𝓖
-    𝓡))
-    (cited 𝓤 H (One 𝓤 H (𝓖 .A) (𝓜 .mem) (𝓡 .run)) 𝓜 𝓡 code.env #shelf·put-job one-fn-def.routine code.calls-shelf·put-job (one-fn-thm.met 𝓤 H 𝓜 𝓖 𝓡)))
+    (cited 𝓤 H (Planned 𝓤 H (𝓖 .A) (𝓜 .mem) (𝓡 .run)) 𝓜 𝓡 code.env #shelf-items·begin plan-fn-def.routine code.calls-shelf-items·begin
+    (plan-fn-thm.met 𝓤 H 𝓜 𝓖 𝓡))
+    (cited 𝓤 H (One 𝓤 H (𝓖 .A) (𝓜 .mem) (𝓡 .run)) 𝓜 𝓡 code.env #shelf-items·put-job one-fn-def.routine code.calls-shelf-items·put-job (one-fn-thm.met
+    𝓤 H 𝓜 𝓖 𝓡)))

@@ -106,13 +106,13 @@ use denote.Triple.Table.{entered, cited}
 use denote.Triple.Walked.{says, Stays, stay-dropped, gave-slice, walkOf, goes-dropped, goes-gave-slice, Walks, ends-at, walked, walk-meets}
 use denote.Exit.{yes}
 use Rattle.lists.specs.Lists.{_beside_}
-use Rattle.shelf.specs.Shelf.{shelfAnswer}
-use Rattle.shelf.specs.Steps.{atMost32}
+use Rattle.shelf_items.specs.Shelf.{shelfAnswer}
+use Rattle.shelf.specs.Few.{atMost32}
 use Rattle.shelf.proofs.Told.{at-most-≤, front-length, few-told}
-use Rattle.shelf.specs.declared.Job.{Job}
+use Rattle.shelf_items.specs.declared.Job.{Job}
 use Rattle.shelf.proofs.Front.{past, front-out, front-in}
-use Rattle.shelf.proofs.Job as T
-use Rattle.shelf.proofs.Job.Laws as T′
+use Rattle.shelf_items.proofs.Job as T
+use Rattle.shelf_items.proofs.Job.Laws as T′
 use Rattle.shelf.proofs.at_most_32 as few-fn
 use Rattle.shelf.proofs.at_most_32.Symbol as few-fn-def
 use Rattle.shelf.proofs.at_most_32.Symbol.{name as #shelf·at-most-32}

@@ -1,0 +1,3 @@
+-- A shelf of loose macroblocks.
+pub mod Shelf
+pub mod Steps

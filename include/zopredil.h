@@ -60,6 +60,9 @@
 #include <stddef.h>
 #include <stdint.h>
 
+/* The version of the library that this header belongs to. */
+#define ZOPREDIL_VERSION "0.9.0"
+
 #ifdef __cplusplus
 extern "C" {
 #endif

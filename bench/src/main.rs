@@ -9,8 +9,9 @@
 //! the Rust its enums, its record of `Option`s and its arrays of blocks. Both write 384 bytes a macroblock;
 //! the library also counts the clipped sums.
 
+use judge::blocks::Blocks;
 use judge::data;
-use judge::expected::{self, Blocks};
+use judge::expected;
 use judge::random::Random;
 use std::hint::black_box;
 use std::process::ExitCode;

@@ -1,4 +1,4 @@
-//! The commands. A further one is a file that has a `COMMAND` of its own, a text of help beside it, and a line in `ALL`.
+//! The commands. A further one is a file that has a `COMMAND` of its own, its text in `help/`, and its name in `ALL`.
 
 use crate::draw;
 use crate::words::Words;
@@ -7,13 +7,13 @@ use std::ffi::OsString;
 /// A command by its name.
 pub struct Command {
     pub name: &'static str,
-    /// How it is called, and what it does: a file of its own, which `./zopredil` prints before the program is built.
+    /// How it is called, and what it does: a file of `help/`, which the script `./zopredil` prints without this program.
     pub help: &'static str,
     /// Does it.
     pub run: fn(Words) -> Result<Said, Failure>,
 }
 
-/// Every command, in the order of the help.
+/// Every command, in the order of the names.
 pub const ALL: &[Command] = &[draw::COMMAND];
 
 /// What is said of something done.
@@ -81,6 +81,11 @@ mod tests {
             }
             assert!(said(&format!("{} -- --help", command.name)) != own);
         }
+    }
+
+    #[test]
+    fn commands_stand_in_order() {
+        assert!(ALL.is_sorted_by_key(|command| command.name));
     }
 
     #[test]

@@ -15,7 +15,7 @@ use std::io::{self, Write};
 use std::path::{Path, PathBuf};
 use zopredil::{still_alone, PlanesMut, StillRefused};
 
-pub const COMMAND: Command = Command { name: "draw", help: include_str!("draw.txt"), run };
+pub const COMMAND: Command = Command { name: "draw", help: include_str!("../help/draw.txt"), run };
 
 /// A still to be drawn.
 #[derive(Debug, PartialEq, Eq)]

@@ -74,23 +74,24 @@ impl Still<'_> {
     /// assert_eq!(still.unknown_byte(1), Some(UnknownByte { byte: ModeByte::SubBlock(15), value: 10 }));
     /// ```
     pub fn unknown_byte(&self, macroblock: usize) -> Option<UnknownByte> {
-        let part = |bytes: &'_ [u8], size: usize| {
-            let at = macroblock.checked_mul(size)?;
-            bytes.get(at..at.checked_add(size)?).map(<[u8]>::to_vec)
-        };
-        let modes = part(self.modes, 3)?;
-        let in_b = IntraYMode::from_number(modes[0]) == Some(IntraYMode::B);
-        let sub_modes = if in_b { part(self.sub_modes, 16)? } else { Vec::new() };
+        let &[y, uv, skip] = part(self.modes, macroblock)?;
+        let mode = IntraYMode::from_number(y);
+        let sub_modes = if mode == Some(IntraYMode::B) { &part::<16>(self.sub_modes, macroblock)?[..] } else { &[] };
         let whole = [
-            (ModeByte::Luma, modes[0], IntraYMode::from_number(modes[0]).is_some()),
-            (ModeByte::Chroma, modes[1], IntraUvMode::from_number(modes[1]).is_some()),
-            (ModeByte::Skip, modes[2], modes[2] <= 1),
+            (ModeByte::Luma, y, mode.is_some()),
+            (ModeByte::Chroma, uv, IntraUvMode::from_number(uv).is_some()),
+            (ModeByte::Skip, skip, skip <= 1),
         ];
-        let parts = sub_modes.into_iter().enumerate();
-        let parts = parts.map(|(k, mode)| (ModeByte::SubBlock(k), mode, IntraBmode::from_number(mode).is_some()));
-        let mut bytes = whole.into_iter().chain(parts);
-        bytes.find(|(_, _, known)| !known).map(|(byte, value, _)| UnknownByte { byte, value })
+        let parts = sub_modes.iter().enumerate();
+        let parts = parts.map(|(k, &mode)| (ModeByte::SubBlock(k), mode, IntraBmode::from_number(mode).is_some()));
+        let unknown = whole.into_iter().chain(parts).find(|(_, _, known)| !known);
+        unknown.map(|(byte, value, _)| UnknownByte { byte, value })
     }
+}
+
+/// The bytes of a macroblock in a list that has `N` of each.
+fn part<const N: usize>(list: &[u8], macroblock: usize) -> Option<&[u8; N]> {
+    list.get(macroblock.checked_mul(N)?..)?.first_chunk()
 }
 
 /// The three planes that a still is drawn into, rows unpadded.

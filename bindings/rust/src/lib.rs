@@ -67,11 +67,13 @@
 //! # Linking
 //!
 //! `build.rs` finds the archive: in the folder that the variable `ZOPREDIL_LIB_DIR` names, in `target/host` of the
-//! repository that the crate stands in, or where `pkg-config` knows an installed `zopredil`.
+//! repository that the crate stands in, or where `pkg-config` knows an installed `zopredil`. The crate is used by its path:
+//! that of the repository, or the folder that `pkg-config --variable=rustdir zopredil` prints.
 
 #![forbid(unsafe_op_in_unsafe_fn)]
 #![deny(missing_docs, clippy::undocumented_unsafe_blocks)]
 
+// A further call is declared in raw.rs and has its safe function in a file of its own, named here.
 mod call;
 mod macroblock;
 mod modes;

@@ -29,28 +29,28 @@
  *     chroma     0 DC   1 V    2 H    3 TM
  *     sub-block  0 DC   1 TM   2 VE   3 HE   4 LD   5 RD   6 VR   7 VL   8 HD   9 HU
  *
- * The neighbour record of a macroblock is 81 bytes: ten marks of 0 (absent) or 1 (there), then the pixels of the ten
- * edges. The bytes of an absent edge change no answer.
+ * The neighbour record of a macroblock is 81 bytes: ten marks of 0 (absent) or 1 (there), then for luma, U and V one row
+ * above, as it stands in the picture, and one column to the left. The parts of a row have a mark each: the first pixel,
+ * those above, and in luma the last four. The bytes of an absent part or column change no answer.
  *
- *                     luma                         U                    V
- *          P | above       | right        P | above            P | above
- *          --+-------------+------        --+--------          --+--------
- *          l |                            l |                  l |
- *          e |  macroblock                e |                  e |
- *          f |                            f |                  f |
- *          t |                            t |                  t |
+ *              luma, row of 21                       U, row of 9            V, row of 9
+ *          P | a a a a .. a | R R R R             P | a a .. a           P | a a .. a
+ *          --+--------------+--------             --+---------           --+---------
+ *          l |              |                     l |                    l |
+ *          l |  macroblock  |                     l |                    l |
+ *          ..                                     ..                     ..
  *
- *     edge               mark    pixels      count
- *     luma top-left P       0    10              1
- *     luma above            1    11 .. 26       16
- *     luma above-right      2    27 .. 30        4
- *     luma left             3    31 .. 46       16
- *     U top-left            4    47              1
- *     U above               5    48 .. 55        8
- *     U left                6    56 .. 63        8
- *     V top-left            7    64              1
- *     V above               8    65 .. 72        8
- *     V left                9    73 .. 80        8
+ *     part               mark    pixels      count
+ *     luma row, P           0    10              1    top-left
+ *     luma row, a           1    11 .. 26       16    above
+ *     luma row, R           2    27 .. 30        4    above right
+ *     luma left, l          3    31 .. 46       16
+ *     U row, P              4    47              1
+ *     U row, a              5    48 .. 55        8
+ *     U left, l             6    56 .. 63        8
+ *     V row, P              7    64              1
+ *     V row, a              8    65 .. 72        8
+ *     V left, l             9    73 .. 80        8
  *
  * An absent pixel above or at the top-left counts as 127 and an absent pixel to the left as 129, but in DC prediction
  * of 16x16 and 8x8 blocks, which averages the edges that are there, and is 128 without any.
@@ -154,7 +154,7 @@ uint32_t zopredil_macroblock(const uint8_t *modes, size_t modes_len, const uint8
 
 /* Gathers the neighbour record of the macroblock in column col and row row, both counted from 0, of a picture of
  * finished planes (12.2 and 12.3) that is cols macroblocks wide and rows high. Each side is 1 to 1,024. y has exactly
- * 256, u and v 64 bytes a macroblock, rows unpadded. An edge outside the picture is absent, its bytes 0. But below the
+ * 256, u and v 64 bytes a macroblock, rows unpadded. A part outside the picture is absent, its bytes 0. But below the
  * first row two edges outside are there: the top-left pixel of the first column is 129 in each plane, and above-right
  * of the last column is the four pixels of right, which is read nowhere else; zopredil_right_pixels gives what every
  * decoder has there. right has 4 bytes and record 81. Replies: 1 for right or record, nothing written; 7; 1 for a

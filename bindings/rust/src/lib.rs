@@ -37,10 +37,11 @@
 //! Loose macroblocks, each drawn from its own neighbours and whatever becomes of the others:
 //!
 //! ```
-//! use zopredil::{shelf, IntraUvMode, IntraYMode, Job, MbModes, Neighbors, Reply};
+//! use zopredil::{shelf, IntraUvMode, IntraYMode, Job, LumaEdges, MbModes, Neighbors, Reply};
 //!
 //! let modes = MbModes { y: IntraYMode::H, uv: IntraUvMode::Dc, skip: true }.to_bytes();
-//! let record = Neighbors { y_left: Some([70; 16]), ..Neighbors::default() }.to_bytes();
+//! let y = LumaEdges { left: [70; 16], left_there: true, ..LumaEdges::default() };
+//! let record = Neighbors { y, ..Neighbors::default() }.to_bytes();
 //! let good = Job { modes, record, sub_modes: [0; 16], coeffs: &[0; 400] };
 //! let damaged = Job { modes: [9, 0, 1], ..good };
 //!
@@ -87,7 +88,7 @@ mod transform;
 
 pub use macroblock::{gather, macroblock, right_pixels, Macroblock};
 pub use modes::{IntraBmode, IntraUvMode, IntraYMode, MbModes};
-pub use neighbors::Neighbors;
+pub use neighbors::{ChromaEdges, LumaEdges, Neighbors};
 pub use predict::{predict_b4x4, predict_uv8x8, predict_y16x16};
 pub use reply::Reply;
 pub use shelf::{shelf, Job, MbPlanes, Shelf};

@@ -62,9 +62,9 @@ pub fn macroblock(
 ///
 /// let (y, u, v) = ([1; 512], [2; 128], [3; 128]);
 /// let edges = gather(&y, &u, &v, 2, 1, 1, 0, [9; 4])?;
-/// assert_eq!((edges.y_left, edges.u_left, edges.y_above), (Some([1; 16]), Some([2; 8]), None));
+/// assert_eq!((edges.y.left, edges.u.left, edges.y.above_there), ([1; 16], [2; 8], false));
 /// let edges = gather(&y, &u, &v, 1, 2, 0, 1, [9; 4])?;
-/// assert_eq!((edges.y_topleft, edges.y_above, edges.y_above_right), (Some(129), Some([1; 16]), Some([9; 4])));
+/// assert_eq!((edges.y.row[0], &edges.y.row[1..17], &edges.y.row[17..]), (129, &[1; 16][..], &[9; 4][..]));
 /// assert_eq!(gather(&y, &u, &v, 2, 1, 2, 0, [9; 4]), Err(Reply::OutsidePicture));
 /// assert_eq!(gather(&y, &u, &u, 3, 1, 2, 0, [9; 4]), Err(Reply::WrongLength));
 /// # Ok::<(), Reply>(())

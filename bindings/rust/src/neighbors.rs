@@ -1,109 +1,218 @@
-//! The neighbour record of a macroblock and its 81 bytes: ten marks, then the pixels of the ten edges in the same order.
+//! The neighbour record of a macroblock and its 81 bytes: ten marks, then a row and a left column for each plane.
 
 use crate::Reply;
 
-/// The finished pixels around a macroblock. `None` is an edge outside the picture.
+/// The finished pixels around a macroblock, and which of them are there. The default has none.
 ///
 /// ```text
-/// y_topleft | y_above (16)        | y_above_right (4)
-/// ----------+---------------------+------------------
-/// y_left    |                     |
-/// (16)      |  the macroblock     |
+/// row     P | a a a a .. a | R R R R        P top-left, a above, R above right (luma alone)
+///         --+--------------+--------
+/// left    l |              |
+///         l |  macroblock  |
+///         ..
 /// ```
 ///
-/// and the same without above-right, 8 pixels an edge, for U and V. The default has no edge.
+/// Pixels of a part that is not there change no answer.
 #[derive(Debug, Clone, Copy, PartialEq, Eq, Hash, Default)]
 pub struct Neighbors {
-    /// The luma pixel above left.
-    pub y_topleft: Option<u8>,
-    /// The luma row above.
-    pub y_above: Option<[u8; 16]>,
-    /// The four luma pixels right of the row above.
-    pub y_above_right: Option<[u8; 4]>,
-    /// The luma column to the left.
-    pub y_left: Option<[u8; 16]>,
-    /// The U pixel above left.
-    pub u_topleft: Option<u8>,
-    /// The U row above.
-    pub u_above: Option<[u8; 8]>,
-    /// The U column to the left.
-    pub u_left: Option<[u8; 8]>,
-    /// The V pixel above left.
-    pub v_topleft: Option<u8>,
-    /// The V row above.
-    pub v_above: Option<[u8; 8]>,
-    /// The V column to the left.
-    pub v_left: Option<[u8; 8]>,
+    /// Luma.
+    pub y: LumaEdges,
+    /// The first chroma plane.
+    pub u: ChromaEdges,
+    /// The second chroma plane.
+    pub v: ChromaEdges,
+}
+
+/// The luma edges: one row of 21 pixels with a mark for each of its three parts, and a left column with a mark.
+#[derive(Debug, Clone, Copy, PartialEq, Eq, Hash, Default)]
+pub struct LumaEdges {
+    /// The pixel above left, the sixteen above, the four above right.
+    pub row: [u8; 21],
+    /// Whether the first pixel of the row is there.
+    pub topleft_there: bool,
+    /// Whether the next sixteen are.
+    pub above_there: bool,
+    /// Whether the last four are.
+    pub above_right_there: bool,
+    /// The column to the left.
+    pub left: [u8; 16],
+    /// Whether the column is there.
+    pub left_there: bool,
+}
+
+/// The edges of U or V: one row of 9 pixels with a mark for each of its two parts, and a left column with a mark.
+#[derive(Debug, Clone, Copy, PartialEq, Eq, Hash, Default)]
+pub struct ChromaEdges {
+    /// The pixel above left, the eight above.
+    pub row: [u8; 9],
+    /// Whether the first pixel of the row is there.
+    pub topleft_there: bool,
+    /// Whether the next eight are.
+    pub above_there: bool,
+    /// The column to the left.
+    pub left: [u8; 8],
+    /// Whether the column is there.
+    pub left_there: bool,
+}
+
+impl LumaEdges {
+    /// The edges of the 16x16 block whose first pixel is in column `x` and line `y` of a plane that has `stride` pixels a
+    /// line: each part that lies in the plane whole is there, any other is absent and 0. `None` unless the block lies in
+    /// the plane.
+    ///
+    /// ```
+    /// use zopredil::LumaEdges;
+    ///
+    /// let plane: Vec<u8> = (0..32 * 32).map(|i| (i / 32 + i % 32) as u8).collect(); // 32 pixels a line
+    /// let inner = LumaEdges::cut(&plane, 32, 8, 16).unwrap();
+    /// assert_eq!((inner.row[0], inner.row[1], inner.row[20], inner.left[0]), (22, 23, 42, 23));
+    /// assert!(inner.topleft_there && inner.above_there && inner.above_right_there && inner.left_there);
+    /// let corner = LumaEdges::cut(&plane, 32, 0, 0).unwrap();
+    /// assert_eq!(corner, LumaEdges::default());
+    /// let last = LumaEdges::cut(&plane, 32, 16, 16).unwrap();
+    /// assert!(last.above_there && !last.above_right_there);
+    /// assert_eq!(LumaEdges::cut(&plane, 32, 17, 16), None);
+    /// ```
+    pub fn cut(plane: &[u8], stride: usize, x: usize, y: usize) -> Option<LumaEdges> {
+        let block = Block::of(plane, stride, x, y, 16)?;
+        let mut edges = LumaEdges::default();
+        edges.topleft_there = block.above(-1, &mut edges.row[..1]);
+        edges.above_there = block.above(0, &mut edges.row[1..17]);
+        edges.above_right_there = block.above(16, &mut edges.row[17..]);
+        edges.left_there = block.left(&mut edges.left);
+        Some(edges)
+    }
+}
+
+impl ChromaEdges {
+    /// The edges of the 8x8 block whose first pixel is in column `x` and line `y` of a plane, as [`LumaEdges::cut`] has
+    /// them.
+    ///
+    /// ```
+    /// use zopredil::ChromaEdges;
+    ///
+    /// let plane = [7; 16 * 16];
+    /// let edges = ChromaEdges::cut(&plane, 16, 8, 8).unwrap();
+    /// assert_eq!((edges.row, edges.left), ([7; 9], [7; 8]));
+    /// assert!(!ChromaEdges::cut(&plane, 16, 0, 8).unwrap().topleft_there);
+    /// ```
+    pub fn cut(plane: &[u8], stride: usize, x: usize, y: usize) -> Option<ChromaEdges> {
+        let block = Block::of(plane, stride, x, y, 8)?;
+        let mut edges = ChromaEdges::default();
+        edges.topleft_there = block.above(-1, &mut edges.row[..1]);
+        edges.above_there = block.above(0, &mut edges.row[1..]);
+        edges.left_there = block.left(&mut edges.left);
+        Some(edges)
+    }
+}
+
+/// A block that lies in its plane.
+struct Block<'a> {
+    plane: &'a [u8],
+    stride: usize,
+    x: usize,
+    y: usize,
+}
+
+impl<'a> Block<'a> {
+    fn of(plane: &'a [u8], stride: usize, x: usize, y: usize, side: usize) -> Option<Block<'a>> {
+        let lines = y.checked_add(side)?;
+        let inside = x.checked_add(side)? <= stride && lines.checked_mul(stride)? <= plane.len();
+        inside.then_some(Block { plane, stride, x, y })
+    }
+
+    /// Pixels of the line above, from `from` columns right of the block's first on; whether the plane has them all.
+    fn above(&self, from: isize, pixels: &mut [u8]) -> bool {
+        let (Some(line), Some(start)) = (self.y.checked_sub(1), self.x.checked_add_signed(from)) else {
+            return false;
+        };
+        if start + pixels.len() > self.stride {
+            return false;
+        }
+        let at = line * self.stride + start;
+        pixels.copy_from_slice(&self.plane[at..at + pixels.len()]);
+        true
+    }
+
+    /// The column to the left; whether the plane has it.
+    fn left(&self, pixels: &mut [u8]) -> bool {
+        let Some(column) = self.x.checked_sub(1) else {
+            return false;
+        };
+        for (line, pixel) in (self.y..).zip(pixels) {
+            *pixel = self.plane[line * self.stride + column];
+        }
+        true
+    }
 }
 
 impl Neighbors {
-    /// The record's 81 bytes. The bytes of an absent edge are 0.
+    /// The record's 81 bytes: the ten marks, then the pixels as they stand, also those of parts that are not there.
     ///
     /// ```
-    /// use zopredil::Neighbors;
+    /// use zopredil::{LumaEdges, Neighbors};
     ///
-    /// let bytes = Neighbors { y_above: Some([7; 16]), ..Neighbors::default() }.to_bytes();
+    /// let y = LumaEdges { row: [7; 21], above_there: true, ..LumaEdges::default() };
+    /// let bytes = Neighbors { y, ..Neighbors::default() }.to_bytes();
     /// assert_eq!(bytes[..10], [0, 1, 0, 0, 0, 0, 0, 0, 0, 0]);
-    /// assert_eq!(bytes[10..28], [0, 7, 7, 7, 7, 7, 7, 7, 7, 7, 7, 7, 7, 7, 7, 7, 7, 0]);
+    /// assert_eq!((&bytes[10..31], &bytes[31..]), (&[7; 21][..], &[0; 50][..]));
     /// ```
     pub fn to_bytes(&self) -> [u8; 81] {
+        let Neighbors { y, u, v } = self;
         let mut bytes = [0; 81];
-        put(&mut bytes, 0, 10, self.y_topleft.map(|p| [p]));
-        put(&mut bytes, 1, 11, self.y_above);
-        put(&mut bytes, 2, 27, self.y_above_right);
-        put(&mut bytes, 3, 31, self.y_left);
-        put(&mut bytes, 4, 47, self.u_topleft.map(|p| [p]));
-        put(&mut bytes, 5, 48, self.u_above);
-        put(&mut bytes, 6, 56, self.u_left);
-        put(&mut bytes, 7, 64, self.v_topleft.map(|p| [p]));
-        put(&mut bytes, 8, 65, self.v_above);
-        put(&mut bytes, 9, 73, self.v_left);
+        let marks = [
+            [y.topleft_there, y.above_there, y.above_right_there, y.left_there].as_slice(),
+            &[u.topleft_there, u.above_there, u.left_there],
+            &[v.topleft_there, v.above_there, v.left_there],
+        ];
+        let pixels = [y.row.as_slice(), &y.left, &u.row, &u.left, &v.row, &v.left];
+        let marks = marks.concat().into_iter().map(u8::from);
+        for (byte, value) in bytes.iter_mut().zip(marks.chain(pixels.concat())) {
+            *byte = value;
+        }
         bytes
     }
 
-    /// The record of 81 bytes. A mark that is neither 0 nor 1 is [`Reply::UnknownByte`]; the bytes of an absent edge are
-    /// not looked at.
+    /// The record of 81 bytes. A mark that is neither 0 nor 1 is [`Reply::UnknownByte`].
     ///
     /// ```
-    /// use zopredil::{Neighbors, Reply};
+    /// use zopredil::{ChromaEdges, Neighbors, Reply};
     ///
-    /// let record = Neighbors { u_left: Some([1, 2, 3, 4, 5, 6, 7, 8]), v_topleft: Some(9), ..Neighbors::default() };
+    /// let u = ChromaEdges { left: [1, 2, 3, 4, 5, 6, 7, 8], left_there: true, ..ChromaEdges::default() };
+    /// let record = Neighbors { u, ..Neighbors::default() };
     /// assert_eq!(Neighbors::from_bytes(&record.to_bytes()), Ok(record));
     /// assert_eq!(Neighbors::from_bytes(&[2; 81]), Err(Reply::UnknownByte));
     /// ```
     pub fn from_bytes(bytes: &[u8; 81]) -> Result<Neighbors, Reply> {
-        Ok(Neighbors {
-            y_topleft: take(bytes, 0, 10)?.map(|[p]| p),
-            y_above: take(bytes, 1, 11)?,
-            y_above_right: take(bytes, 2, 27)?,
-            y_left: take(bytes, 3, 31)?,
-            u_topleft: take(bytes, 4, 47)?.map(|[p]| p),
-            u_above: take(bytes, 5, 48)?,
-            u_left: take(bytes, 6, 56)?,
-            v_topleft: take(bytes, 7, 64)?.map(|[p]| p),
-            v_above: take(bytes, 8, 65)?,
-            v_left: take(bytes, 9, 73)?,
-        })
+        let there = |k: usize| match bytes[k] {
+            0 => Ok(false),
+            1 => Ok(true),
+            _ => Err(Reply::UnknownByte),
+        };
+        let chroma = |mark: usize, at: usize| {
+            Ok(ChromaEdges {
+                row: part(bytes, at),
+                topleft_there: there(mark)?,
+                above_there: there(mark + 1)?,
+                left: part(bytes, at + 9),
+                left_there: there(mark + 2)?,
+            })
+        };
+        let y = LumaEdges {
+            row: part(bytes, 10),
+            topleft_there: there(0)?,
+            above_there: there(1)?,
+            above_right_there: there(2)?,
+            left: part(bytes, 31),
+            left_there: there(3)?,
+        };
+        Ok(Neighbors { y, u: chroma(4, 47)?, v: chroma(7, 64)? })
     }
 }
 
-/// Writes an edge: its mark, and its pixels from `at` on.
-fn put<const N: usize>(bytes: &mut [u8; 81], mark: usize, at: usize, edge: Option<[u8; N]>) {
-    if let Some(pixels) = edge {
-        bytes[mark] = 1;
-        bytes[at..at + N].copy_from_slice(&pixels);
-    }
-}
-
-/// Reads an edge.
-fn take<const N: usize>(bytes: &[u8; 81], mark: usize, at: usize) -> Result<Option<[u8; N]>, Reply> {
-    match bytes[mark] {
-        0 => Ok(None),
-        1 => {
-            let mut pixels = [0; N];
-            pixels.copy_from_slice(&bytes[at..at + N]);
-            Ok(Some(pixels))
-        }
-        _ => Err(Reply::UnknownByte),
-    }
+/// The pixels from `at` on.
+fn part<const N: usize>(bytes: &[u8; 81], at: usize) -> [u8; N] {
+    let mut pixels = [0; N];
+    pixels.copy_from_slice(&bytes[at..at + N]);
+    pixels
 }

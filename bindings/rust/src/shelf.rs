@@ -55,10 +55,11 @@ fn item(bytes: &[u8], reply: u8) -> Result<MbPlanes, Reply> {
 /// place and has no clipped sums. The jobs are copied into the lists that the C function takes.
 ///
 /// ```
-/// use zopredil::{shelf, Job, Neighbors, Reply};
+/// use zopredil::{shelf, Job, LumaEdges, Neighbors, Reply};
 ///
 /// // skipped, the luma in H and the chroma in V: to the left are 70 and above nothing
-/// let record = Neighbors { y_left: Some([70; 16]), ..Neighbors::default() }.to_bytes();
+/// let y = LumaEdges { left: [70; 16], left_there: true, ..LumaEdges::default() };
+/// let record = Neighbors { y, ..Neighbors::default() }.to_bytes();
 /// let good = Job { modes: [2, 1, 1], record, sub_modes: [0; 16], coeffs: &[0; 400] };
 /// let damaged = Job { modes: [9, 1, 1], ..good };
 ///

@@ -185,18 +185,23 @@ fn mode_b_without_edges() {
 fn a_skipped_macroblock_is_its_prediction() {
     for y in [IntraYMode::Dc, IntraYMode::V, IntraYMode::H, IntraYMode::Tm] {
         for uv in IntraUvMode::ALL {
+            let above: [u8; 16] = std::array::from_fn(|i| 5 * i as u8);
             let edges = Neighbors {
-                y_topleft: Some(3),
-                y_above: Some(std::array::from_fn(|i| 5 * i as u8)),
-                y_left: Some(std::array::from_fn(|i| 200 - i as u8)),
-                u_above: Some([9; 8]),
-                v_left: Some([7; 8]),
-                ..Neighbors::default()
+                y: LumaEdges {
+                    row: std::array::from_fn(|i| if i == 0 { 3 } else { *above.get(i - 1).unwrap_or(&0) }),
+                    topleft_there: true,
+                    above_there: true,
+                    left: std::array::from_fn(|i| 200 - i as u8),
+                    left_there: true,
+                    ..LumaEdges::default()
+                },
+                u: ChromaEdges { row: [9; 9], above_there: true, ..ChromaEdges::default() },
+                v: ChromaEdges { left: [7; 8], left_there: true, ..ChromaEdges::default() },
             };
             let drawn = macroblock(MbModes { y, uv, skip: true }, None, &edges, &[999; 400]).unwrap();
-            assert_eq!(Ok(drawn.y), predict_y16x16(y, edges.y_above.as_ref(), edges.y_left.as_ref(), 3));
-            assert_eq!(drawn.u, predict_uv8x8(uv, edges.u_above.as_ref(), None, 127));
-            assert_eq!(drawn.v, predict_uv8x8(uv, None, edges.v_left.as_ref(), 127));
+            assert_eq!(Ok(drawn.y), predict_y16x16(y, Some(&above), Some(&edges.y.left), 3));
+            assert_eq!(drawn.u, predict_uv8x8(uv, Some(&[9; 8]), None, 127));
+            assert_eq!(drawn.v, predict_uv8x8(uv, None, Some(&edges.v.left), 127));
         }
     }
 }
@@ -236,7 +241,9 @@ fn mode_b_does_not_use_the_first_sixteen() {
 
 #[test]
 fn right_column_takes_the_same_above_right_pixels() {
-    let edges = Neighbors { y_above: Some([50; 16]), y_above_right: Some([90; 4]), ..Neighbors::default() };
+    let row = std::array::from_fn(|i| if i < 17 { 50 } else { 90 });
+    let y = LumaEdges { row, above_there: true, above_right_there: true, ..LumaEdges::default() };
+    let edges = Neighbors { y, ..Neighbors::default() };
     let drawn = macroblock(SKIPPED_B, Some(&[IntraBmode::Ld; 16]), &edges, &[0; 400]).unwrap();
     for row in [3, 7, 11, 15] {
         assert_eq!(drawn.y[16 * row + 15], 90);
@@ -255,16 +262,16 @@ fn gathering_in_the_middle() {
     let (y, u, v) = picture();
     let edges = gather(&y, &u, &v, 3, 2, 1, 1, [9; 4]).unwrap();
     let at = |tone: usize, row: usize, col: usize| (tone + 7 * row + col) as u8;
-    assert_eq!(edges.y_topleft, Some(at(0, 15, 15)));
-    assert_eq!(edges.y_above, Some(std::array::from_fn(|i| at(0, 15, 16 + i))));
-    assert_eq!(edges.y_above_right, Some(std::array::from_fn(|i| at(0, 15, 32 + i))));
-    assert_eq!(edges.y_left, Some(std::array::from_fn(|i| at(0, 16 + i, 15))));
-    assert_eq!(edges.u_topleft, Some(at(100, 7, 7)));
-    assert_eq!(edges.u_above, Some(std::array::from_fn(|i| at(100, 7, 8 + i))));
-    assert_eq!(edges.u_left, Some(std::array::from_fn(|i| at(100, 8 + i, 7))));
-    assert_eq!(edges.v_topleft, Some(at(200, 7, 7)));
-    assert_eq!(edges.v_above, Some(std::array::from_fn(|i| at(200, 7, 8 + i))));
-    assert_eq!(edges.v_left, Some(std::array::from_fn(|i| at(200, 8 + i, 7))));
+    assert_eq!(edges.y.row, std::array::from_fn(|i| at(0, 15, 15 + i)));
+    assert_eq!(edges.y.left, std::array::from_fn(|i| at(0, 16 + i, 15)));
+    assert_eq!(edges.u.row, std::array::from_fn(|i| at(100, 7, 7 + i)));
+    assert_eq!(edges.u.left, std::array::from_fn(|i| at(100, 8 + i, 7)));
+    assert_eq!(edges.v.row, std::array::from_fn(|i| at(200, 7, 7 + i)));
+    assert_eq!(edges.v.left, std::array::from_fn(|i| at(200, 8 + i, 7)));
+    // inside the picture gathering and cutting are one
+    assert_eq!(LumaEdges::cut(&y, 48, 16, 16), Some(edges.y));
+    assert_eq!(ChromaEdges::cut(&u, 24, 8, 8), Some(edges.u));
+    assert_eq!(ChromaEdges::cut(&v, 24, 8, 8), Some(edges.v));
 }
 
 #[test]
@@ -275,17 +282,17 @@ fn gathering_at_the_rim() {
             let right = [9, 8, 7, 6];
             let edges = gather(&y, &u, &v, 3, 2, col, row, right).unwrap();
             let (above, left) = (row > 0, col > 0);
-            let margin = (above && !left).then_some(129);
-            for topleft in [edges.y_topleft, edges.u_topleft, edges.v_topleft] {
-                assert_eq!(topleft.is_some(), above);
-                assert!(margin.is_none() || topleft == margin);
+            let rows = [
+                (edges.y.row[0], edges.y.topleft_there, edges.y.above_there, edges.y.left_there),
+                (edges.u.row[0], edges.u.topleft_there, edges.u.above_there, edges.u.left_there),
+                (edges.v.row[0], edges.v.topleft_there, edges.v.above_there, edges.v.left_there),
+            ];
+            for (first, topleft_there, above_there, left_there) in rows {
+                assert_eq!((topleft_there, above_there, left_there), (above, above, left));
+                assert!(!above || left || first == 129);
             }
-            assert_eq!(edges.y_above.is_some(), above);
-            assert_eq!(edges.y_above_right.is_some(), above);
-            assert_eq!(edges.y_above_right == Some(right), above && col == 2);
-            assert_eq!(edges.y_left.is_some(), left);
-            assert_eq!((edges.u_above.is_some(), edges.v_above.is_some()), (above, above));
-            assert_eq!((edges.u_left.is_some(), edges.v_left.is_some()), (left, left));
+            assert_eq!(edges.y.above_right_there, above);
+            assert_eq!(edges.y.row[17..] == right, above && col == 2);
             // elsewhere than in the last column below the first row the given pixels are not read
             let other = gather(&y, &u, &v, 3, 2, col, row, [1, 2, 3, 4]).unwrap();
             assert_eq!(other == edges, !(above && col == 2));

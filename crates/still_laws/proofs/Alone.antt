@@ -1,4 +1,4 @@
--- A still drawn alone is the still given exactly the right-hand pixels that its own finished luma plane shows: for each macroblock row after the first four
+-- A still drawn alone is, in its whole answer (`alone-told-is-given`), the still given exactly the right-hand pixels that its own finished luma plane shows: for each macroblock row after the first four
 -- copies of the last pixel of the row above. The rows above a macroblock's are finished when its turn comes, and no later turn writes there.
 -- Assumes nothing.
 use Prim.Native.Nat.{ℕ, zero, suc, _+_, _-_, _*_, _/_, _%_, _<_, _≤_}
@@ -18,8 +18,9 @@ use Rattle.picture_limits.proofs.Accepted.{Within}
 use Rattle.right_pixels.specs.Answers.{lastAbove, rightPixels}
 use Rattle.right_pixels.specs.declared.RightPixels.{RightPixels}
 use Rattle.right_pixels.proofs.Copies.{last-of-sixteen, row-refused, copies}
-use Rattle.still.specs.Picture.{Progress, drawnAt, turn, first, picture, rightAt, rightGiven, rightRead}
-use Rattle.still.specs.Answers.{aloneFits, stillAnswer, aloneAnswer}
+use Rattle.still.specs.Picture.{Progress, drawnAt, turn, first, picture, countAt, countIn, firstClipped, pictureClipped, rightAt, rightGiven, rightRead}
+use Rattle.lists.proofs.Total.{total-ext}
+use Rattle.still.specs.Answers.{aloneFits, stillAnswer, aloneAnswer, stillClipped, aloneClipped, stillTold, aloneTold}
 use Rattle.rfc6386.specs.Picture.{sizeOk}
 use Rattle.still.proofs.Sizes.{size-says, row-within}
 use Rattle.still_laws.specs.Words.{inY, rightsOf}
@@ -81,6 +82,19 @@ module _ (w h : ℕ) (modes subs : List ℕ) (coeffs : List ℤ) (s t : ℕ → 
       turn-same m (first w h modes subs coeffs s m y u v) (e m (omega arith))
       ∙ ap (λ (d : Progress). turn w h modes subs coeffs t m d) (first-same y u v m (λ k l. e k (omega arith)))
 
+  count-same : (k : ℕ) (d : Progress) → s (k / w) (d .y) ≡ t (k / w) (d .y) → countIn w h modes subs coeffs s k d ≡ countIn w h modes subs coeffs t k d
+  unfolding countIn countAt
+  count-same k d e = rw e
+
+  pub counts-same : (y u v : List ℕ) (m : ℕ)
+      → ((k : ℕ) → k < m → s (k / w) (first w h modes subs coeffs s k y u v .y) ≡ t (k / w) (first w h modes subs coeffs s k y u v .y))
+      → firstClipped w h modes subs coeffs s m y u v ≡ firstClipped w h modes subs coeffs t m y u v
+  unfolding firstClipped
+  counts-same y u v m e =
+      total-ext m _ _ λ k l.
+      count-same k (first w h modes subs coeffs s k y u v) (e k l)
+      ∙ ap (λ (d : Progress). countIn w h modes subs coeffs t k d) (first-same y u v k (λ j q. e j (omega arith)))
+
 -- the last pixel of a row stands before the next
 row-ends : (t s : ℕ) → 0 < s → t * s + (s - 1) < suc t * s
 row-ends t s h = omega arith
@@ -120,6 +134,11 @@ module _ (w h : ℕ) (modes subs : List ℕ) (coeffs : List ℤ) (y u v : List �
   unfolding picture
   alone-picture = first-same w h modes subs coeffs (rightRead w h) (rightGiven (rightsOf w h (at (w * h) .y))) y u v (w * h) agree
 
+  pub alone-counts : pictureClipped w h modes subs coeffs (rightRead w h) y u v
+      ≡ pictureClipped w h modes subs coeffs (rightGiven (rightsOf w h (picture w h modes subs coeffs (rightRead w h) y u v .y))) y u v
+  unfolding pictureClipped picture
+  alone-counts = counts-same w h modes subs coeffs (rightRead w h) (rightGiven (rightsOf w h (at (w * h) .y))) y u v (w * h) agree
+
 -- ---- the answers
 module _ (w h : ℕ) (modes subs : List ℕ) (coeffs : List ℤ) (y u v : List ℕ) where
   abbrev alone : Progress
@@ -139,3 +158,21 @@ module _ (w h : ℕ) (modes subs : List ℕ) (coeffs : List ℤ) (y u v : List �
   pub alone-is-given : aloneAnswer w h modes subs coeffs y u v
       ≡ stillAnswer w h modes subs coeffs (rightsOf w h (aloneAnswer w h modes subs coeffs y u v .y)) y u v
   alone-is-given = by-tests (sizeOk w h) lengths refl refl
+
+  counts-by : (a b : Bool) → sizeOk w h ≡ a → lengths ≡ b
+      → aloneClipped w h modes subs coeffs y u v ≡ stillClipped w h modes subs coeffs (rightsOf w h (alone .y)) y u v
+  unfolding aloneAnswer aloneClipped stillClipped
+  counts-by false b e f = rw e
+  counts-by true false e f = rw (e, f)
+  counts-by true true e f =
+      rw (e, f, eq-eqb (length (rightsOf w h (picture w h modes subs coeffs (rightRead w h) y u v .y))) (4 * (h - 1)) (rights-length w h _))
+      (alone-counts w h modes subs coeffs y u v (size-says w h e) (accepted-lengths w h modes subs coeffs y u v f .y-plane))
+
+  pub alone-count-is-given : aloneClipped w h modes subs coeffs y u v
+      ≡ stillClipped w h modes subs coeffs (rightsOf w h (aloneAnswer w h modes subs coeffs y u v .y)) y u v
+  alone-count-is-given = counts-by (sizeOk w h) lengths refl refl
+
+  -- the whole answer of the call: reply, index, planes and count
+  pub alone-told-is-given : aloneTold w h modes subs coeffs y u v
+      ≡ stillTold w h modes subs coeffs (rightsOf w h (aloneTold w h modes subs coeffs y u v .0 .y)) y u v
+  alone-told-is-given = λ i. (alone-is-given i, alone-count-is-given i)

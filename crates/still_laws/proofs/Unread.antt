@@ -2,7 +2,7 @@
 -- luma byte 4 give the same answer, refused or not.
 --     drawn-unread    one macroblock
 --     turn-unread     one turn
---     still-unread, alone-unread     the two calls
+--     still-told-unread, alone-told-unread     the two calls: reply, planes and count
 -- Assumes nothing.
 use Prim.Native.Nat.{ℕ, zero, suc, _+_, _*_, _/_, _%_, _<_, _≤_}
 use mathlib.Core.Bool.{Bool, true, false}
@@ -25,9 +25,10 @@ use Rattle.macroblock.specs.Says.{yReply, yMode}
 use Rattle.rfc6386.specs.Edges.{isB}
 use Rattle.gathering.specs.Answers.{gathered}
 use Rattle.drawing.specs.Drawn.{modesKnown, modesOf, drawnIn, drawn}
-use Rattle.canvas.specs.Into.{made, drawnInto}
-use Rattle.still.specs.Picture.{Progress, progress, drawnAt, turn, first, picture, rightGiven, rightRead}
-use Rattle.still.specs.Answers.{stillAnswer, aloneAnswer}
+use Rattle.canvas.specs.Into.{made, drawnInto, clippedInto}
+use Rattle.lists.proofs.Total.{total-ext}
+use Rattle.still.specs.Picture.{Progress, progress, drawnAt, turn, first, picture, countAt, countIn, firstClipped, pictureClipped, rightGiven, rightRead}
+use Rattle.still.specs.Answers.{stillAnswer, aloneAnswer, stillClipped, aloneClipped, stillTold, aloneTold}
 use Rattle.still_laws.specs.Words.{SameB}
 
 is-or-not : (a b : ℕ) → (a ≡ b) ⊎ (a ≡ b → ⊥)
@@ -80,6 +81,17 @@ module _ (w h : ℕ) (modes subs others : List ℕ) (coeffs : List ℤ) (right :
       (drawn-unread (getD modes (3 * k) 0) (getD modes (3 * k + 1) 0) (getD modes (3 * k + 2) 0) (take 16 (drop (16 * k) subs)) (take 16 (drop (16 * k) others))
       true (gathered (d .y) (d .u) (d .v) w h (k % w) (k / w) (right (k / w) (d .y)) .neighbors) (take 400 (drop (400 * k) coeffs)) n)
 
+  same-count : take 16 (drop (16 * k) subs) ≡ take 16 (drop (16 * k) others) → countIn w h modes subs coeffs right k d ≡ countIn w h modes others coeffs right k d
+  unfolding countIn countAt
+  same-count e = rw e
+
+  other-count : (getD modes (3 * k) 0 ≡ 4 → ⊥) → countIn w h modes subs coeffs right k d ≡ countIn w h modes others coeffs right k d
+  unfolding countIn countAt clippedInto made
+  other-count n =
+      rw
+      (drawn-unread (getD modes (3 * k) 0) (getD modes (3 * k + 1) 0) (getD modes (3 * k + 2) 0) (take 16 (drop (16 * k) subs)) (take 16 (drop (16 * k) others))
+      true (gathered (d .y) (d .u) (d .v) w h (k % w) (k / w) (right (k / w) (d .y)) .neighbors) (take 400 (drop (400 * k) coeffs)) n)
+
 -- the sixteen bytes of macroblock k, by their elements
 sixteen : (k : ℕ) (subs others : List ℕ) → length subs ≡ length others → ((i : ℕ) → i < 16 → getD subs (16 * k + i) 0 ≡ getD others (16 * k + i) 0)
     → take 16 (drop (16 * k) subs) ≡ take 16 (drop (16 * k) others)
@@ -112,3 +124,35 @@ module _ (w h : ℕ) (modes subs others : List ℕ) (same : SameB w h modes subs
   pub alone-unread : aloneAnswer w h modes subs coeffs y u v ≡ aloneAnswer w h modes others coeffs y u v
   unfolding aloneAnswer
   alone-unread = rw (same .long, picture-unread (rightRead w h))
+
+  count-unread : (right : ℕ → List ℕ → List ℕ) (k : ℕ) (d : Progress) → k < w * h
+      → countIn w h modes subs coeffs right k d ≡ countIn w h modes others coeffs right k d
+  count-unread right k d l =
+      ⊎-elim
+      (λ e. same-count w h modes subs others coeffs right k d (sixteen k subs others (same .long) (same .bytes k l e)))
+      (other-count w h modes subs others coeffs right k d)
+      (is-or-not (getD modes (3 * k) 0) 4)
+
+  pub picture-counts-unread : (right : ℕ → List ℕ → List ℕ)
+      → pictureClipped w h modes subs coeffs right y u v ≡ pictureClipped w h modes others coeffs right y u v
+  unfolding pictureClipped firstClipped first
+  picture-counts-unread right =
+      total-ext (w * h) _ _ λ k l.
+      count-unread right k (first w h modes subs coeffs right k y u v) l
+      ∙ ap (λ (d : Progress). countIn w h modes others coeffs right k d)
+      (turns-ext k (turn w h modes subs coeffs right) (turn w h modes others coeffs right) (progress done 0 y u v) (λ j d q. turn-unread right j d (omega arith)))
+
+  pub still-count-unread : (given : List ℕ) → stillClipped w h modes subs coeffs given y u v ≡ stillClipped w h modes others coeffs given y u v
+  unfolding stillClipped
+  still-count-unread given = rw (same .long, picture-counts-unread (rightGiven given))
+
+  pub alone-count-unread : aloneClipped w h modes subs coeffs y u v ≡ aloneClipped w h modes others coeffs y u v
+  unfolding aloneClipped
+  alone-count-unread = rw (same .long, picture-counts-unread (rightRead w h))
+
+  -- the whole answers of the calls: reply, index, planes and count
+  pub still-told-unread : (given : List ℕ) → stillTold w h modes subs coeffs given y u v ≡ stillTold w h modes others coeffs given y u v
+  still-told-unread given = λ i. (still-unread given i, still-count-unread given i)
+
+  pub alone-told-unread : aloneTold w h modes subs coeffs y u v ≡ aloneTold w h modes others coeffs y u v
+  alone-told-unread = λ i. (alone-unread i, alone-count-unread i)

@@ -4,7 +4,7 @@
 --     planeClipped     a plane predicted whole; yWholeClipped, uClipped, vClipped of a macroblock
 --     yPartsClipped    luma in mode B
 -- Where the coefficients are skipped nothing is summed, and the count is 0.
-use Prim.Native.Nat.{ℕ, zero, suc, _+_, _*_, _/_, _%_}
+use Prim.Native.Nat.{ℕ, _+_, _*_, _/_, _%_}
 use mathlib.Core.Bool.{Bool}
 use mathlib.Core.List.{List}
 use lib.Dec.{ltb}

@@ -3,7 +3,7 @@ use crate::DEFAULT_ABOVE_PIXEL;
 use crate::DEFAULT_LEFT_PIXEL;
 ghost use mathlib.Core.Path.{_≡_};
 ghost use Prim.Native.Nat.{_*_, _<_};
-ghost use lib.ListN.{length, getD};
+ghost use lib.ListN.{length};
 ghost use Rattle.lists.specs.Lists.{table, rows};
 ghost use Rattle.intra_edges.specs.Way.{spread, edgeBlock};
 
@@ -21,22 +21,13 @@ pub(crate) fn fill(dst: &mut [u8], v: u8)
     }
 }
 
-fn copy(dst: &mut [u8], src: &[u8])
-    requires { ⌜ length (now dst) ≡ length (now src) ⌝ }
-    ensures { λ _. ⌜ now (dst .exit) ≡ table (length (now (src .entry))) (λ k. getD (now (src .entry)) k 0) ⌝ }
-{
-    for k in 0..src.len() {
-        dst[k] = src[k];
-    }
-}
-
 // Row r of the block.
 fn row(dst: &mut [u8], r: usize, edge: &[u8], way: Way)
     requires { ⌜ (length (now dst) ≡ length (now edge)) × (r < length (now edge)) ⌝ }
     ensures { λ _. ⌜ now (dst .exit) ≡ table (length (now (edge .entry))) (spread way (now (edge .entry)) r) ⌝ }
 {
     match way {
-        Way::Down => copy(dst, edge),
+        Way::Down => slices::copy(dst, edge),
         Way::Across => fill(dst, edge[r]),
     }
 }

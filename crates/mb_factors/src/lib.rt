@@ -10,9 +10,8 @@ ghost use mathlib.Core.Path.{_≡_};
 ghost use mathlib.Core.Bool.{true};
 ghost use Prim.Native.Nat.{_*_, _/_, _≤_, min, max};
 ghost use lib.IntN.{pos, _+ℤ_};
-ghost use Rattle.rfc6386.specs.MbFactors.{dcEntry, acEntry};
 ghost use Rattle.quantiser.specs.Factors.{signed32};
-ghost use Rattle.mb_factors.specs.Entries.{entries};
+ghost use Rattle.mb_factors.specs.Entries.{Unsigned, entries};
 ghost use Rattle.mb_factors.specs.Factors.{sumsFit, factorsGiven, noFactors, mbFactors};
 
 // The six factors, beside a reply: 5 where a sum of indices is outside signed 32 bits, with all six 0.
@@ -90,8 +89,10 @@ fn given(yac_qi: i32, ydc: i32, y2dc: i32, y2ac: i32, uvdc: i32, uvac: i32) -> M
     requires { ⌜ sumsFit «yac_qi» ydc y2dc y2ac uvdc uvac ≡ true ⌝ }
     ensures { λ r. ⌜ r ≡ factorsGiven «yac_qi» ydc y2dc y2ac uvdc uvac ⌝ }
 {
-    let dc = dc_entries(yac_qi + ydc, yac_qi + y2dc, yac_qi + uvdc);
-    let ac = ac_entries(yac_qi, yac_qi + y2ac, yac_qi + uvac);
+    let dc_table = quantiser::DC_QLOOKUP;
+    let dc = three_entries(&dc_table, yac_qi + ydc, yac_qi + y2dc, yac_qi + uvdc);
+    let ac_table = quantiser::AC_QLOOKUP;
+    let ac = three_entries(&ac_table, yac_qi, yac_qi + y2ac, yac_qi + uvac);
     MbDequantFactors {
         reply: macroblock::reply::DONE,
         y1_dc: plain(dc.first),
@@ -110,24 +111,10 @@ struct Entries {
     third: u32,
 }
 
-fn dc_entries(i: i32, j: i32, k: i32) -> Entries
-    ensures { λ r. ⌜ r ≡ entries dcEntry i j k ⌝ }
+fn three_entries(table: &[i16; 128], i: i32, j: i32, k: i32) -> Entries
+    requires { ⌜ Unsigned (now table) ⌝ }
+    ensures { λ r. ⌜ r ≡ entries (now (table .entry)) i j k ⌝ }
 {
-    let table = quantiser::DC_QLOOKUP;
-    let a = quantiser::clamp_qindex(i);
-    let b = quantiser::clamp_qindex(j);
-    let c = quantiser::clamp_qindex(k);
-    Entries {
-        first: table[a] as u32,
-        second: table[b] as u32,
-        third: table[c] as u32,
-    }
-}
-
-fn ac_entries(i: i32, j: i32, k: i32) -> Entries
-    ensures { λ r. ⌜ r ≡ entries acEntry i j k ⌝ }
-{
-    let table = quantiser::AC_QLOOKUP;
     let a = quantiser::clamp_qindex(i);
     let b = quantiser::clamp_qindex(j);
     let c = quantiser::clamp_qindex(k);

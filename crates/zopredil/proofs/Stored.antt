@@ -27,12 +27,12 @@ module _ {A : Type 0} where
   stored l a b c d e f u v w x y z h i j k m n o = six l a b c d e f h ∙ rw (i, j, k, m, n, o)
 
 module _ (q ydc y2dc y2ac uvdc uvac : ℤ) (l fs : List ℤ) where
-  pub factors-refused : (length fs ≡ 6 → ⊥) → (wrongLength beside l beside fs) ≡ (sixAnswer q ydc y2dc y2ac uvdc uvac l fs)
+  pub factors-refused : (length fs ≡ 6 → ⊥) → (wrongLength beside l beside fs) ≡ sixAnswer q ydc y2dc y2ac uvdc uvac l fs
   unfolding sixAnswer
   factors-refused h = rw (ne-eqb (length fs) 6 h)
 
   pub factors-stored : (r : MbDequantFactors) (m gs : List ℤ) → length fs ≡ 6
       → _≡_ {A = MbDequantFactors × List ℤ} (r, m) (dequantiseAnswer q ydc y2dc y2ac uvdc uvac l) → gs ≡ factorList r
-      → (r .reply beside m beside gs) ≡ (sixAnswer q ydc y2dc y2ac uvdc uvac l fs)
+      → (r .reply beside m beside gs) ≡ sixAnswer q ydc y2dc y2ac uvdc uvac l fs
   unfolding sixAnswer
   factors-stored r m gs h e g = rw (eq-eqb (length fs) 6 h, ← e, g)

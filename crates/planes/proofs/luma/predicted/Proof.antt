@@ -1,5 +1,4 @@
 -- `planes::luma::predicted` meets its contract. Assumes nothing.
-use mathlib.Core.Path.{refl}
 use borrow.Author.Needs.{needs}
 use Rattle.intra_predict.specs.Luma.{predictedY}
 use Rattle.rfc6386.specs.Walk.{yPrediction}

@@ -98,24 +98,24 @@ uint32_t zopredil_dequantise(int32_t yac_qi, int32_t ydc, int32_t y2dc, int32_t 
                              int16_t *coeffs, size_t coeffs_len, int16_t *factors, size_t factors_len);
 
 /* The inverse Walsh-Hadamard transform of a Y2 block (14.3), whose sixteen answers are the DC coefficients of the
- * macroblock's sixteen luma blocks. input and out have 16 numbers in raster order. Replies: 1, nothing written. */
-uint32_t zopredil_inverse_wht(const int16_t *input, size_t input_len, int16_t *out, size_t out_len);
+ * macroblock's sixteen luma blocks. in and out have 16 numbers in raster order. Replies: 1, nothing written. */
+uint32_t zopredil_inverse_wht(const int16_t *in, size_t in_len, int16_t *out, size_t out_len);
 
 /* The same of a block whose other fifteen coefficients are 0 (14.3): every answer is (dc + 3) >> 3. out has 16 numbers.
  * Replies: 1, nothing written. */
 uint32_t zopredil_inverse_wht_dc_only(int16_t dc, int16_t *out, size_t out_len);
 
-/* The inverse DCT of a 4x4 block (14.4): the residue that is added to the prediction. input and out have 16 numbers in
+/* The inverse DCT of a 4x4 block (14.4): the residue that is added to the prediction. in and out have 16 numbers in
  * raster order. Replies: 1, nothing written. */
-uint32_t zopredil_inverse_dct(const int16_t *input, size_t input_len, int16_t *out, size_t out_len);
+uint32_t zopredil_inverse_dct(const int16_t *in, size_t in_len, int16_t *out, size_t out_len);
 
 /* The inverse DCT of a 4x4 block, added to the prediction that stands in a plane (14.4 and 14.5), each sum clamped to
- * 0..255. The block's first pixel is plane[4 * sub_row * stride + 4 * sub_col], its rows are stride apart. input has 16
+ * 0..255. The block's first pixel is plane[4 * sub_row * stride + 4 * sub_col], its rows are stride apart. in has 16
  * numbers. The block lies in the plane when stride >= 4 * sub_col + 4 and
  * (4 * sub_row + 3) * stride + 4 * sub_col + 4 <= plane_len, in numbers without bound. Every byte outside the block is
- * kept. clipped has 1 number, at most 16. Replies: 1 for input or clipped, nothing written; 2, the plane untouched and
+ * kept. clipped has 1 number, at most 16. Replies: 1 for in or clipped, nothing written; 2, the plane untouched and
  * clipped 0. */
-uint32_t zopredil_inverse_dct_add_into(const int16_t *input, size_t input_len, uint8_t *plane, size_t plane_len,
+uint32_t zopredil_inverse_dct_add_into(const int16_t *in, size_t in_len, uint8_t *plane, size_t plane_len,
                                        size_t stride, size_t sub_row, size_t sub_col, uint64_t *clipped,
                                        size_t clipped_len);
 

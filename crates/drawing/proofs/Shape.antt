@@ -23,7 +23,7 @@ use Rattle.rfc6386.proofs.Edges.{y-length, uv-length}
 use Rattle.clipping.proofs.Bounds.{y-whole-≤, uv-≤, y-parts-≤}
 use Rattle.reconstruct.specs.declared.ReconstructedMb.{ReconstructedMb}
 use Rattle.reconstruct.specs.Answers.{refusal, wholeOf, partsOf, nonB, walkB}
-use Rattle.drawing.specs.Drawn.{planesOf, modesKnown, modesOf, subModesOf, drawnB, drawnIn, drawnWith, drawn, drawnBytes}
+use Rattle.drawing.specs.Drawn.{planesOf, modesKnown, modesOf, subModesOf, subsKnown, drawnB, drawnIn, drawnWith, drawn, drawnBytes}
 
 pub record Shape (r : ReconstructedMb) : Type 0 where
   pub luma : length (r .y) ≡ 256
@@ -112,7 +112,7 @@ module _ (m : MbModes) (subs : List ℕ) (there : Bool) (n : MbNeighbors) (c : L
   unfolding drawnIn drawnB
   in-shape =
       pick-shape (isB (m .y))
-      (pick-shape (within 9 16 subs) (walk-b-shape (subModesOf subs) (drop 16 c)) (refusal-shape unknownByte (lit≤ tt)))
+      (pick-shape (subsKnown subs there) (walk-b-shape (subModesOf subs) (drop 16 c)) (refusal-shape unknownByte (lit≤ tt)))
       non-b-shape
 
   pub with-shape : Shape (drawnWith m subs there n c)

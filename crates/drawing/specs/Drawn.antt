@@ -1,8 +1,8 @@
 -- One macroblock from its bytes: three mode bytes (luma, chroma, skip), sixteen sub-block bytes and 400 coefficients, of which luma mode B skips the
 -- first 16. It is what the walkers of `reconstruct` answer; a luma or chroma byte that is no mode's number, a skip byte above 1 and, in luma mode B, a
--- sub-block byte that is no mode's number are reply 8. Sub-block bytes are looked at in luma mode B alone.
+-- sub-block byte that is no mode's number are reply 8. Sub-block bytes are looked at in luma mode B alone, and where they are marked as there.
 use Prim.Native.Nat.{ℕ}
-use mathlib.Core.Bool.{Bool}
+use mathlib.Core.Bool.{Bool, true}
 use mathlib.Core.List.{List, _++_}
 use lib.Dec.{eqb, leb}
 use lib.IntN.{ℤ}
@@ -33,10 +33,14 @@ modesOf luma chroma skip = record { y = yMode luma; uv = uvMode chroma; skip = e
 unfoldable pub subModesOf : List ℕ → List IntraBmode
 subModesOf subs = table 16 (λ k. bMode (getD subs k 0))
 
+-- bytes that are not there are not looked at
+abbrev pub subsKnown : List ℕ → Bool → Bool
+subsKnown subs there = pick there (within 9 16 subs) true
+
 -- luma mode B: the first 16 coefficients are skipped
 unfoldable pub drawnB : MbModes → List ℕ → Bool → MbNeighbors → List ℤ → ReconstructedMb
 drawnB modes subs there n coeffs =
-    pick (within 9 16 subs) (walkB (subModesOf subs) there modes n (drop 16 coeffs)) (refusal unknownByte)
+    pick (subsKnown subs there) (walkB (subModesOf subs) there modes n (drop 16 coeffs)) (refusal unknownByte)
 
 -- a macroblock of known modes
 unfoldable pub drawnIn : MbModes → List ℕ → Bool → MbNeighbors → List ℤ → ReconstructedMb

@@ -3,7 +3,7 @@
 ghost use mathlib.Core.Path.{_≡_};
 ghost use Prim.Native.Nat.{_≤_};
 ghost use lib.ListN.{length};
-ghost use Rattle.drawing.specs.Drawn.{modesKnown, modesOf, subModesOf, drawnB, drawnIn, drawnWith, drawn, drawnBytes};
+ghost use Rattle.drawing.specs.Drawn.{modesKnown, modesOf, subModesOf, subsKnown, drawnB, drawnIn, drawnWith, drawn, drawnBytes};
 use macroblock::IntraBmode;
 use macroblock::MbModes;
 use macroblock::MbNeighbors;
@@ -45,6 +45,15 @@ fn sub_modes_of(bytes: [u8; 16]) -> [IntraBmode; 16]
     modes
 }
 
+fn sub_modes_known(bytes: [u8; 16], there: bool) -> bool
+    ensures { λ r. ⌜ r ≡ subsKnown bytes there ⌝ }
+{
+    if there {
+        return macroblock::b_modes_known(bytes);
+    }
+    true
+}
+
 fn draw_b(
     modes: MbModes,
     sub_modes: [u8; 16],
@@ -55,7 +64,7 @@ fn draw_b(
     requires { ⌜ 16 ≤ length (now coeffs) ⌝ }
     ensures { λ r. ⌜ r ≡ drawnB modes «sub_modes» «sub_modes_there» neighbors (now (coeffs .entry)) ⌝ }
 {
-    if !macroblock::b_modes_known(sub_modes) {
+    if !sub_modes_known(sub_modes, sub_modes_there) {
         return reconstruct::refused(reply::UNKNOWN_BYTE);
     }
     let subs = sub_modes_of(sub_modes);

@@ -1,4 +1,5 @@
 -- Which reply is given when.
+--     nonB-reply, walkB-reply          each number exactly where its test refuses and no earlier one did
 --     nonB-accepted, walkB-accepted    with reply 0 no test refused, and the answer is the three planes
 --     walkB-never-six                  the number 6 is not used: no window of a sub-block passes the end of the work buffer
 --                                      (`Inside` of `sub_blocks`), so there is nothing that it could say
@@ -36,6 +37,16 @@ module _ (m : MbModes) (n : MbNeighbors) (c : List ℤ) where
   unfolding nonB
   nonB-accepted q = let s = whole-by (isB (m .y)) (eqb (length c) 400) q in (s .0, eqb-true (length c) 400 (s .1), s .2)
 
+  reply-by : (b e : Bool) → pick b (refusal bPred) (pick e planes (refusal wrongLength)) .reply ≡ pick b bPred (pick e done wrongLength)
+  unfolding refusal wholeOf
+  reply-by true e = refl
+  reply-by false true = refl
+  reply-by false false = refl
+
+  pub nonB-reply : nonB m n c .reply ≡ pick (isB (m .y)) bPred (pick (eqb (length c) 400) done wrongLength)
+  unfolding nonB
+  nonB-reply = reply-by (isB (m .y)) (eqb (length c) 400)
+
 -- ---- the walker of mode B
 module _ (modes : List IntraBmode) (there : Bool) (m : MbModes) (n : MbNeighbors) (c : List ℤ) where
   abbrev parts : ReconstructedMb
@@ -53,6 +64,16 @@ module _ (modes : List IntraBmode) (there : Bool) (m : MbModes) (n : MbNeighbors
   pub walkB-accepted : walkB modes there m n c .reply ≡ done → (there ≡ true) × (length c ≡ 384) × (walkB modes there m n c ≡ parts)
   unfolding walkB
   walkB-accepted q = let s = parts-by there (eqb (length c) 384) q in (s .0, eqb-true (length c) 384 (s .1), s .2)
+
+  reply-of : (t e : Bool) → tested t e .reply ≡ pick t (pick e done wrongLength) noSubModes
+  unfolding refusal partsOf
+  reply-of false e = refl
+  reply-of true false = refl
+  reply-of true true = refl
+
+  pub walkB-reply : walkB modes there m n c .reply ≡ pick there (pick (eqb (length c) 384) done wrongLength) noSubModes
+  unfolding walkB
+  walkB-reply = reply-of there (eqb (length c) 384)
 
   replies-by : (t e : Bool) → tested t e .reply ≡ 6 → ⊥
   unfolding refusal partsOf

@@ -46,6 +46,12 @@ pub walkB-unmarked : (subs others : List IntraBmode) (m : MbModes) (n : MbNeighb
 unfolding walkB
 walkB-unmarked subs others m n c = refl
 
+-- ---- the luma mode, in the walker of mode B
+pub walkB-luma : (subs : List IntraBmode) (there : Bool) (m k : MbModes) (n : MbNeighbors) (c : List ℤ) → m .uv ≡ k .uv → m .skip ≡ k .skip
+    → walkB subs there m n c ≡ walkB subs there k n c
+unfolding walkB
+walkB-luma subs there m k n c e f = rw (e, f)
+
 -- ---- the coefficients of a skipped macroblock, of which only the number is looked at
 module _ (m : MbModes) (n : MbNeighbors) (c d : List ℤ) (skipped : m .skip ≡ true) (same : length c ≡ length d) where
   pub nonB-skipped-coefficients : nonB m n c ≡ nonB m n d

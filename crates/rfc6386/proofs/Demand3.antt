@@ -1,10 +1,11 @@
 -- Demand 3: each pixel, scaled by 2^35, is less than 13 * 2^32 away from the exact one: the clamp of 2^35 times the prediction, plus T.
 --     plain-pixel      in whole numbers without bound, for every block
 --     demand3-pixel    as the machine makes it, for every block of coefficients from -8191 to 8191
+--     dropped-above, dropped-below    the prediction alone does not meet it where the exact residue is 13/8 of a level or more, with room up or down
 -- Assumes nothing.
 use Prim.Native.Nat.{ℕ, _+_, _*_, _^_, _<_}
 use native.Mathlib.Omega.{arith}
-use lib.IntN.{ℤ, pos, _+ℤ_, _*ℤ_}
+use lib.IntN.{ℤ, pos, negsuc, _+ℤ_, _*ℤ_}
 use lib.Signed.{_≤ℤ_}
 use Rattle.whole.specs.Whole.{clampTo}
 use Rattle.whole.proofs.Linear.{split2, linear}

@@ -18,7 +18,7 @@ use Rattle.reconstruct.specs.declared.ReconstructedMb.{ReconstructedMb}
 use Rattle.reconstruct.specs.Answers.{refusal, wholeOf, partsOf, nonB, walkB}
 use Rattle.rfc6386.specs.Edges.{isB}
 use Rattle.gathering.specs.Answers.{gathered}
-use Rattle.drawing.specs.Drawn.{drawn, drawnIn, drawnB, modesKnown, modesOf, subModesOf}
+use Rattle.drawing.specs.Drawn.{drawn, drawnIn, drawnB, modesKnown, modesOf, subModesOf, subsKnown}
 use Rattle.canvas.specs.Into.{made, clippedInto}
 use Rattle.still.specs.Picture.{Progress, first, countAt, countIn, firstClipped, pictureClipped, rightGiven, rightRead}
 use Rattle.still.specs.Answers.{aloneFits, stillFits, stillClipped, aloneClipped}
@@ -57,12 +57,12 @@ unfolding drawn drawnIn drawnB
 drawn-≤ luma chroma skip subs there n c =
     let m = modesOf luma chroma skip in
     let parts = walkB (subModesOf subs) there m n (drop 16 c) in
-    let b = pick (within 9 16 subs) parts (refusal 8) in
+    let b = pick (subsKnown subs there) parts (refusal 8) in
     let known = pick (isB (m .y)) b (nonB m n c) in
     chosen (eqb (length c) 400) (pick (modesKnown luma chroma skip) known (refusal 8)) (refusal 1)
     (chosen (modesKnown luma chroma skip) known (refusal 8)
     (chosen (isB (m .y)) b (nonB m n c)
-    (chosen (within 9 16 subs) parts (refusal 8) (walkB-≤ (subModesOf subs) there m n (drop 16 c)) (refusal-≤ 8)) (nonB-≤ m n c))
+    (chosen (subsKnown subs there) parts (refusal 8) (walkB-≤ (subModesOf subs) there m n (drop 16 c)) (refusal-≤ 8)) (nonB-≤ m n c))
     (refusal-≤ 8))
     (refusal-≤ 1)
 

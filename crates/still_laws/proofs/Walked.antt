@@ -19,7 +19,7 @@ use Rattle.macroblock.specs.Says.{yReply, yMode, uvReply}
 use Rattle.rfc6386.specs.Edges.{isB}
 use Rattle.reconstruct.specs.declared.ReconstructedMb.{ReconstructedMb}
 use Rattle.reconstruct.specs.Answers.{refusal, nonB, walkB}
-use Rattle.drawing.specs.Drawn.{modesKnown, modesOf, subModesOf, drawnB, drawnIn, drawn}
+use Rattle.drawing.specs.Drawn.{modesKnown, modesOf, subModesOf, subsKnown, drawnB, drawnIn, drawn}
 use Rattle.still_laws.proofs.Unread.{luma-says}
 
 -- a test that was passed, k being the reply where it is not
@@ -72,5 +72,5 @@ module _ (luma chroma skip : ℕ) (subs : List ℕ) (there : Bool) (n : MbNeighb
     unfolding drawnB
     is-walkB e =
         in-mode ∙ in-B e
-        ∙ passed (within 9 16 subs) (walkB (subModesOf subs) there (modesOf luma chroma skip) n (drop 16 coeffs)) unknownByte (λ z. omega arith)
+        ∙ passed (subsKnown subs there) (walkB (subModesOf subs) there (modesOf luma chroma skip) n (drop 16 coeffs)) unknownByte (λ z. omega arith)
         (ap (λ (r : ReconstructedMb). r .reply) (sym (in-mode ∙ in-B e)) ∙ accepted) .1

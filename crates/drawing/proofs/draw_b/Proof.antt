@@ -9,16 +9,16 @@ use Rattle.drawing.proofs.draw_b.Tie as tie
 
 returns : tie.Need-returns
 unfolding drawnB
-returns c = rw (sym (c .before .before .b-modes-known .ensures) ∙ not-true _ (c .before .if1 .taken)) (c .refused .ensures)
+returns c = rw (sym (c .before .before .sub-modes-known .ensures) ∙ not-true _ (c .before .if1 .taken)) (c .refused .ensures)
 
 returns-2 : tie.Need-returns-2
 unfolding drawnB
 returns-2 c =
     let sub-modes-of = c .before .before in
     let if1 = sub-modes-of .before in
-    let b-modes-known = if1 .before in
-    let start = b-modes-known .before in
-    rw (← tail-whole 16 (start .args .coeffs .now), sym (b-modes-known .b-modes-known .ensures) ∙ not-false _ (if1 .if1 .left), ← (sub-modes-of .sub-modes-of .ensures))
+    let sub-modes-known = if1 .before in
+    let start = sub-modes-known .before in
+    rw (← tail-whole 16 (start .args .coeffs .now), sym (sub-modes-known .sub-modes-known .ensures) ∙ not-false _ (if1 .if1 .left), ← (sub-modes-of .sub-modes-of .ensures))
     (c .decode-keyframe-mb-bpred .ensures)
 
 pub draw-b-spec : {M : Type 1} → statement M

@@ -16,7 +16,7 @@ use Rattle.macroblock.specs.declared.modes.IntraBmode.{IntraBmode}
 use Rattle.macroblock.specs.declared.modes.MbModes.{MbModes}
 use Rattle.macroblock.specs.declared.neighbors.MbNeighbors.{MbNeighbors}
 use Rattle.rfc6386.specs.Walk.{blockAt, seeded, plane, yPrediction, uvPrediction, yWhole, uvPlane, startOf, subPrediction, walked}
-use Rattle.rfc6386.proofs.Demand3.{Within, exactPixel}
+use Rattle.rfc6386.specs.Exact.{Within, exactPixel}
 use Rattle.rfc6386.proofs.Demand3Planes.{Block8191, demand3-added, demand3-sub}
 use Rattle.rfc6386.proofs.Parts.{parts-at}
 use Rattle.reconstruct.specs.Answers.{wholeOf, partsOf, nonB, walkB}

@@ -15,16 +15,9 @@ use Rattle.whole.proofs.Range.{Small}
 use Rattle.whole.proofs.Clamp.{clamp-in, clamp-near, clamp-scale}
 use Rattle.rfc6386.specs.Dct.{residue, residuePlain, T}
 use Rattle.rfc6386.specs.Residue.{sum}
+use Rattle.rfc6386.specs.Exact.{Within, exactPixel}
 use Rattle.rfc6386.proofs.DctNear.{Near, near-residue}
 use Rattle.rfc6386.proofs.DctRange.{residue-plain}
-
--- a and b are less than d apart
-abbrev pub Within : ℕ → ℕ → ℕ → Type 0
-Within d a b = (a < b + d) × (b < a + d)
-
--- 2^35 times the exact pixel at row r and column c of the block x, over the prediction p
-abbrev pub exactPixel : (ℕ → ℤ) → ℕ → ℕ → ℕ → ℕ
-exactPixel x r c p = clampTo (2 ^ 35 * 255) (pos (2 ^ 35 * p) +ℤ T x r c)
 
 pub plain-pixel : (x : ℕ → ℤ) (r c p : ℕ) → Within (13 * 2 ^ 32) (2 ^ 35 * clampTo 255 (pos p +ℤ residuePlain x r c)) (exactPixel x r c p)
 plain-pixel x r c p = at (T x r c) (residuePlain x r c) (near-residue x r c)

@@ -19,7 +19,8 @@ use Rattle.rfc6386.specs.Dct.{column, passes, residue, T}
 use Rattle.rfc6386.specs.Residue.{sum}
 use Rattle.rfc6386.specs.Walk.{addedBlocks, subPixels}
 use Rattle.rfc6386.proofs.DctBlocks.{residue-ext}
-use Rattle.rfc6386.proofs.Demand3.{Within, exactPixel, demand3-pixel}
+use Rattle.rfc6386.specs.Exact.{Within, exactPixel}
+use Rattle.rfc6386.proofs.Demand3.{demand3-pixel}
 use Rattle.rfc6386.proofs.Planes.{added-at}
 
 -- the exact transform too depends on the block's sixteen coefficients only

@@ -6,6 +6,7 @@
 --     Residue       14.5        prediction plus residue, clamped, in a block and in a plane
 --     Edges         12.2        16x16 and 8x8 prediction, over the edge's length
 --     Subblock      12.3        4x4 prediction
+--     Exact                     how near a pixel is to the exact one
 --     Walk          14.2, 12.3  a macroblock: its luma and its chroma
 --     Picture       12.2        the neighbours of a macroblock of a picture
 pub mod Quantiser
@@ -15,5 +16,6 @@ pub mod Dct
 pub mod Residue
 pub mod Edges
 pub mod Subblock
+pub mod Exact
 pub mod Walk
 pub mod Picture

@@ -1,19 +1,18 @@
+-- `plane_distance::comparable` meets its contract. Assumes nothing.
+use borrow.Author.Needs.{needs}
+use native.Mathlib.Omega.{arith}
+use Rattle.plane_distance.proofs.Parts.{not-same, not-whole, by-size}
 use Rattle.plane_distance.proofs.comparable.Statement.{statement}
 use Rattle.plane_distance.proofs.comparable.Tie as tie
-use Rattle.plane_distance.proofs.comparable.Reads as reads
-use Rattle.plane_distance.proofs.comparable.Lts as lts
 
--- src/lib.rt:199:9
 returns : tie.Need-returns
-returns c = ?
+returns c = not-same _ _ (c .if1 .taken)
 
--- src/lib.rt:202:9
 returns-2 : tie.Need-returns-2
-returns-2 c = ?
+returns-2 c = not-whole _ _ (c .before .if1 .left) (c .if2 .taken)
 
--- src/lib.rt:195:1
 returns-3 : tie.Need-returns-3
-returns-3 c = ?
+returns-3 c = by-size _ _ (c .before .if1 .left) (c .if2 .left)
 
 pub comparable-spec : {M : Type 1} → statement M
 comparable-spec = tie.close (tie.spec returns returns-2 returns-3)

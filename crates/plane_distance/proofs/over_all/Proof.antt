@@ -1,61 +1,82 @@
+-- `plane_distance::over_all` meets its contract: the stretches so far are the plane so far. Assumes nothing.
+use Prim.Native.Nat.{ℕ, _≤_, _<_, _-_, _+_, _*_, _%_}
+use mathlib.Core.Path.{_≡_, refl, sym, ap, _∙_}
+use native.Mathlib.Omega.{arith}
+use borrow.Author.Needs.{needs}
+use lib.ListN.{length}
+use Rattle.plane_distance.specs.Sums.{total, largest}
+use Rattle.plane_distance.specs.Apart.{distanceFrom}
+use Rattle.plane_distance.specs.declared.Distance.{Distance}
+use Rattle.plane_distance.proofs.Pixels.{Bytes}
+use Rattle.plane_distance.proofs.Parts.{parts, equal-≤, squares-≤, comparable-says}
 use Rattle.plane_distance.proofs.over_all.Statement.{statement}
 use Rattle.plane_distance.proofs.over_all.Tie as tie
-use Rattle.plane_distance.proofs.over_all.Reads as reads
-use Rattle.plane_distance.proofs.over_all.Lts as lts
-use Rattle.plane_distance.proofs.at_most_255.Reads as at-most-255-reads
-use Rattle.plane_distance.proofs.nothing.Reads as nothing-reads
-use Rattle.plane_distance.proofs.stretch.Reads as stretch-reads
-use Rattle.plane_distance.proofs.together.Reads as together-reads
 
 abbrev Inv-loop : tie.InvT-loop
-Inv-loop a b n sum₀ at₀ sum at = ?
+Inv-loop a b n sum₀ at₀ sum at = (at ≤ n) × (at % 64 ≡ 0) × (sum ≡ distanceFrom a b 0 at)
 
 abbrev μ-loop : tie.MeasureT-loop
-μ-loop a b n sum₀ at₀ sum at = ?
+μ-loop a b n sum₀ at₀ sum at = n - at
 
--- src/lib.rt:185:9
-nothing-requires : tie.Need-nothing-requires Inv-loop μ-loop
-nothing-requires c κs = ?
-
--- src/lib.rt:187:5
 loop-holds : tie.Need-loop-holds Inv-loop μ-loop
-loop-holds c = ?
+unfolding distanceFrom total largest
+loop-holds c = (omega arith, refl, c .nothing .ensures)
 
--- src/lib.rt:188:34
-sub-at-most-255 : tie.Need-sub-at-most-255 Inv-loop μ-loop
-sub-at-most-255 c = ?
+-- the next stretch lies in both planes and is not empty
+pub record Next (at turns n m : ℕ) : Type 0 where
+  pub few : turns ≤ 255
+  pub some : 1 ≤ turns
+  pub inside : at + 64 * turns ≤ n
+  pub both : n ≡ m
+  pub small : n ≤ 268435456
 
--- src/lib.rt:188:13
-at-most-255-requires : tie.Need-at-most-255-requires Inv-loop μ-loop
-at-most-255-requires c κs = ?
+next : (c : tie.After-at-most-255 Inv-loop μ-loop)
+    → let a = c .before .before .before .before .before .before .args in
+    Next (c .before .before .loop .at) (c .at-most-255 .result) (length (a .a .now)) (length (a .b .now))
+next c =
+    let k = comparable-says _ _ (c .before .before .before .before .before .before .pre) in
+    record {
+      few = omega (arith, c .at-most-255 .ensures);
+      some = omega (arith, c .at-most-255 .ensures, k .whole, c .before .before .loop .inv .1, c .before .loop-test .taken);
+      inside = omega (arith, c .at-most-255 .ensures, c .before .loop-test .taken);
+      both = k .same;
+      small = k .small;
+    }
 
--- src/lib.rt:189:29
 stretch-requires : tie.Need-stretch-requires Inv-loop μ-loop
-stretch-requires c κs = ?
+stretch-requires c κs = let n = next c in (n .few, n .inside, omega (arith, n .inside, n .both))
 
--- src/lib.rt:189:9
 together-requires : tie.Need-together-requires Inv-loop μ-loop
-together-requires c κs = ?
+together-requires c κs =
+    let n = next (c .before) in
+    let l = c .before .before .before in
+    let known2 = l .before .before in
+    let known = known2 .before in
+    let a = known .before .args in
+    let p : Bytes (a .a .now) = λ i. omega (arith, known .shared-slice-known .given i) in
+    let q : Bytes (a .b .now) = λ i. omega (arith, known2 .shared-slice-known2 .given i) in
+    let sum = ap (λ (d : Distance). d .squares) (l .loop .inv .2) in
+    let more = ap (λ (d : Distance). d .squares) (c .stretch .ensures) in
+    let same = ap (λ (d : Distance). d .equal) (l .loop .inv .2) in
+    let more-same = ap (λ (d : Distance). d .equal) (c .stretch .ensures) in (
+      omega (arith, sum, more, n .inside, n .small, squares-≤ (a .a .now) (a .b .now) p q 0 (l .loop .at), squares-≤ (a .a .now) (a .b .now) p q (l .loop .at) (64 * c .before .at-most-255 .result)),
+      omega (arith, same, more-same, n .inside, n .small, equal-≤ (a .a .now) (a .b .now) 0 (l .loop .at), equal-≤ (a .a .now) (a .b .now) (l .loop .at) (64 * c .before .at-most-255 .result)),
+    )
 
--- src/lib.rt:190:19
-mul-at : tie.Need-mul-at Inv-loop μ-loop
-mul-at c = ?
-
--- src/lib.rt:190:14
-add-at : tie.Need-add-at Inv-loop μ-loop
-add-at c = ?
-
--- src/lib.rt:187:5
-loop-less : tie.Need-loop-less Inv-loop μ-loop
-loop-less c = ?
-
--- src/lib.rt:187:5
 loop-again : tie.Need-loop-again Inv-loop μ-loop
-loop-again c = ?
+loop-again c =
+    let n = next (c .before .before) in
+    let l = c .before .before .before .before .loop in (
+      n .inside,
+      omega (arith, l .inv .1),
+      c .together .ensures ∙ rw (l .inv .2, c .before .stretch .ensures) (parts _ _ (l .at) _),
+    )
 
--- src/lib.rt:180:1
 returns : tie.Need-returns Inv-loop μ-loop
-returns c = ?
+returns c =
+    let l = c .before .loop in
+    let full : l .at ≡ length (c .before .before .before .before .before .args .a .now) = omega arith in
+    rw full at (l .inv .2)
 
 pub over-all-spec : {M : Type 1} → statement M
 over-all-spec =
@@ -63,14 +84,14 @@ over-all-spec =
     (tie.spec
     Inv-loop
     μ-loop
-    nothing-requires
+    (λ c κs. tt)
     loop-holds
-    sub-at-most-255
-    at-most-255-requires
+    (λ c. search needs)
+    (λ c κs. tt)
     stretch-requires
     together-requires
-    mul-at
-    add-at
-    loop-less
+    (λ c. let n = next (c .before .before) in omega (arith, n .few))
+    (λ c. let n = next (c .before .before) in omega (arith, n .inside, n .small))
+    (λ c. let n = next (c .before .before) in omega (arith, n .inside, n .some))
     loop-again
     returns)

@@ -2,7 +2,7 @@
 --     sidesOk         every side is from 1 to 1,024
 --     lengthsOk       two numbers a still; both slices have the pixels of all stills; three numbers a report
 --     refusal         12 for more than 4,096 stills, then 7, then 1; 0 where none holds
-use Prim.Native.Nat.{ℕ, zero, suc, _*_, _/_, _%_, _≤_}
+use Prim.Native.Nat.{ℕ, zero, suc, _-_, _*_, _/_, _%_, _≤_}
 use mathlib.Core.Bool.{Bool, true, false}
 use mathlib.Core.Path.{_≡_}
 use mathlib.Core.List.{List, [], _∷_}
@@ -54,3 +54,11 @@ pub record Accepted (sizes : List ℕ) (drawn measured reports : ℕ) : Type 0 w
   pub few : length sizes ≤ 8192
   pub sides : sidesOk sizes (length sizes) ≡ true
   pub lengths : lengthsOk sizes drawn measured reports ≡ true
+
+-- the plane of a still from `at` to `end`, in slices of so many pixels
+pub record Plane (at end drawn measured : ℕ) : Type 0 where
+  pub forward : at ≤ end
+  pub in-drawn : end ≤ drawn
+  pub in-measured : end ≤ measured
+  pub whole : (end - at) % 256 ≡ 0
+  pub small : end - at ≤ 268435456

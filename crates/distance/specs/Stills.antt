@@ -6,6 +6,7 @@
 --     summed n         the same over the first n together
 use Prim.Native.Nat.{ℕ, _+_, _*_, _/_}
 use mathlib.Core.List.{List, [], _∷_}
+use borrow.Rule.Slice.PartMut.{putMid}
 use lib.ListN.{length, getD}
 use Rattle.plane_distance.specs.Sums.{total, largest}
 use Rattle.plane_distance.specs.Apart.{distanceFrom}
@@ -14,6 +15,10 @@ use Rattle.distance.specs.Words.{joined}
 
 unfoldable pub reportOf : Distance → List ℕ
 reportOf d = d .squares ∷ d .largest ∷ d .equal ∷ []
+
+-- report k written into its place
+unfoldable pub putReport : ℕ → Distance → List ℕ → List ℕ
+putReport k d reports = putMid (3 * k) 3 reports (reportOf d)
 
 module _ (sizes : List ℕ) where
   unfoldable pub pixelsOf : ℕ → ℕ

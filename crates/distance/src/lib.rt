@@ -8,13 +8,13 @@
 //      totals     s l e                     the sum, the largest, the sum
 ghost use mathlib.Core.Path.{_≡_};
 ghost use mathlib.Core.Bool.{true};
-ghost use Prim.Native.Nat.{ℕ, _+_, _*_, _/_, _<_, _≤_, max};
+ghost use Prim.Native.Nat.{ℕ, _+_, _-_, _*_, _/_, _<_, _≤_, max};
 ghost use lib.ListN.{length, getD};
 ghost use Rattle.lists.specs.Lists.{both};
-ghost use Rattle.plane_distance.specs.Apart.{noDistance, together};
+ghost use Rattle.plane_distance.specs.Apart.{distanceFrom, noDistance, together};
 ghost use Rattle.distance.specs.Words.{_beside_};
-ghost use Rattle.distance.specs.Stills.{pixelsOf, startOf, reportOf, reported, summed};
-ghost use Rattle.distance.specs.Answer.{sideOk, sidesOk, lengthsOk, refusal, Accepted, distanceAnswer};
+ghost use Rattle.distance.specs.Stills.{pixelsOf, startOf, reportOf, putReport, reported, summed};
+ghost use Rattle.distance.specs.Answer.{sideOk, sidesOk, lengthsOk, refusal, Accepted, Plane, distanceAnswer};
 use macroblock::reply;
 use plane_distance::Distance;
 
@@ -136,6 +136,21 @@ fn put(to: &mut [u64], d: Distance)
     to[2] = d.equal;
 }
 
+// The still whose planes stand from `at` to `end` in both slices.
+fn still(drawn: &[u8], measured: &[u8], at: usize, end: usize) -> Distance
+    requires { ⌜ Plane at end (length (now drawn)) (length (now measured)) ⌝ }
+    ensures { λ r. ⌜ r ≡ distanceFrom (now (drawn .entry)) (now (measured .entry)) at (end - at) ⌝ }
+{
+    plane_distance::plane_distance(&drawn[at..end], &measured[at..end])
+}
+
+fn put_report(reports: &mut [u64], k: usize, d: Distance)
+    requires { ⌜ 3 * k + 3 ≤ length (now reports) ⌝ }
+    ensures { λ _. ⌜ now (reports .exit) ≡ putReport k d (now (reports .entry)) ⌝ }
+{
+    put(&mut reports[3 * k..3 * k + 3], d);
+}
+
 // The report of each still, and all of them together.
 fn report_each(sizes: &[u32], drawn: &[u8], measured: &[u8], reports: &mut [u64]) -> Distance
     requires { ⌜ Accepted (now sizes) (length (now drawn)) (length (now measured)) (length (now reports)) ⌝ }
@@ -147,8 +162,8 @@ fn report_each(sizes: &[u32], drawn: &[u8], measured: &[u8], reports: &mut [u64]
     let mut at = 0;
     for k in 0..n {
         let end = at + pixels(sizes, k);
-        let d = plane_distance::plane_distance(&drawn[at..end], &measured[at..end]);
-        put(&mut reports[3 * k..3 * k + 3], d);
+        let d = still(drawn, measured, at, end);
+        put_report(reports, k, d);
         sum = together(sum, d);
         at = end;
     }

@@ -2,6 +2,8 @@
 --     Sizes       what the tests of the sizes and lengths say; how many pixels a still and a list have at most
 --     Reports     the reports of the first stills, and their sums
 --     Planes      a still is the distance of its two parts of the planes
+--     Bounds      how far the numbers grow
 pub mod Sizes
 pub mod Reports
 pub mod Planes
+pub mod Bounds

@@ -12,7 +12,7 @@ use Rattle.plane_distance.specs.Sums.{total, largest}
 use Rattle.plane_distance.specs.Apart.{apart, apartAt, squareAt, sameAt, distanceFrom, comparable, planeDistance}
 use Rattle.plane_distance.specs.declared.Distance.{Distance}
 use Rattle.plane_distance.proofs.Totals.{total-ext, largest-ext}
-use Rattle.distance.specs.Answer.{Plane}
+use Rattle.distance.specs.Stills.{pixelsOf, startOf, stillAt}
 
 module _ (at n : ℕ) (l : List ℕ) (h : at + n ≤ length l) where
   part-length : length (take n (drop at l)) ≡ n
@@ -56,3 +56,9 @@ module _ (a b : List ℕ) (at n : ℕ) (p : at + n ≤ length a) (q : at + n ≤
   pub part-distance : n % 256 ≡ 0 → n ≤ 268435456 → planeDistance pa pb ≡ distanceFrom a b at n
   unfolding planeDistance
   part-distance e s = rw (part-length at n a p, part-length at n b q, fits e s) from-part
+
+-- the still from `at` to `end` is still k
+pub still-is : (sizes drawn measured : List ℕ) (k at n : ℕ) (d : Distance) → at ≡ startOf sizes k → n ≡ pixelsOf sizes k
+    → d ≡ distanceFrom drawn measured at (at + n - at) → d ≡ stillAt sizes drawn measured k
+unfolding stillAt
+still-is sizes drawn measured k at n d e h q = let g : at + n - at ≡ n = omega arith in rw (← e, ← h) (rw g at q)

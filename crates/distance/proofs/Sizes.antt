@@ -1,5 +1,5 @@
 -- What the tests of the sizes and the lengths say, and how many pixels a still and a list have at most. Assumes nothing.
-use Prim.Native.Nat.{ℕ, zero, suc, _+_, _*_, _/_, _%_, _<_, _≤_}
+use Prim.Native.Nat.{ℕ, zero, suc, _+_, _-_, _*_, _/_, _%_, _<_, _≤_}
 use mathlib.Core.Bool.{Bool, true, false}
 use mathlib.Core.List.{List, [], _∷_}
 use mathlib.Core.Logic.{⊎-elim}
@@ -14,9 +14,9 @@ use Rattle.lists.specs.Lists.{pick, both}
 use Rattle.lists.proofs.Tests.{left-holds, right-holds}
 use Rattle.macroblock.specs.Reply.{done, wrongLength, outsidePicture}
 use Rattle.plane_distance.specs.Sums.{total}
-use Rattle.plane_distance.proofs.Totals.{total-turn, total-≤}
+use Rattle.plane_distance.proofs.Totals.{total-turn, total-≤, total-add}
 use Rattle.distance.specs.Stills.{pixelsOf, startOf}
-use Rattle.distance.specs.Answer.{tooMany, sideOk, sidesOk, lengthsOk, refusal, Accepted}
+use Rattle.distance.specs.Answer.{tooMany, sideOk, sidesOk, lengthsOk, refusal, Accepted, Plane}
 
 -- ---- sides
 pub record Side (s : ℕ) : Type 0 where
@@ -79,6 +79,12 @@ start-none sizes = refl
 pub start-turn : (sizes : List ℕ) (k at n : ℕ) → at ≡ startOf sizes k → n ≡ pixelsOf sizes k → at + n ≡ startOf sizes (k + 1)
 unfolding startOf
 start-turn sizes k at n e h = total-turn k (pixelsOf sizes) at n e h
+
+pub start-within : (sizes : List ℕ) (m n : ℕ) → m ≤ n → startOf sizes m ≤ startOf sizes n
+unfolding startOf
+start-within sizes m n h =
+    let e : m + (n - m) ≡ n = omega arith in
+    omega (arith, ap (λ (k : ℕ). total k (pixelsOf sizes)) e, total-add m (n - m) (pixelsOf sizes))
 
 -- ---- lengths
 pub record Lengths (sizes : List ℕ) (drawn measured reports : ℕ) : Type 0 where
@@ -153,3 +159,31 @@ module _ (sizes : List ℕ) (drawn measured reports : ℕ) where
   pub accepted : refusal sizes drawn measured reports ≡ done → Accepted sizes drawn measured reports
   unfolding refusal
   accepted e = by-tests (ltb 8192 (length sizes)) (sidesOk sizes (length sizes)) (lengthsOk sizes drawn measured reports) refl refl refl e
+
+-- ---- the plane of still k in an accepted call, n pixels from `at` on
+pub record Placed (sizes : List ℕ) (drawn measured reports k at n : ℕ) : Type 0 where
+  pub after : at + n ≡ startOf sizes (k + 1)
+  pub plane : Plane at (at + n) drawn measured
+  pub fits : at + n ≤ 1099511627776
+  pub report : 3 * k + 3 ≤ reports
+
+pub placed : (sizes : List ℕ) (drawn measured reports : ℕ) → Accepted sizes drawn measured reports → (k at n : ℕ) → k < length sizes / 2
+    → at ≡ startOf sizes k → n ≡ pixelsOf sizes k → Placed sizes drawn measured reports k at n
+placed sizes drawn measured reports a k at n h e q =
+    let l = lengths-say sizes drawn measured reports (a .lengths) in
+    let f : at + n ≡ startOf sizes (k + 1) = start-turn sizes k at n e q in
+    let w = start-within sizes (k + 1) (length sizes / 2) (omega arith) in
+    let g : at + n - at ≡ n = omega arith in
+    record {
+      after = f;
+      plane =
+          record {
+            forward = omega arith;
+            in-drawn = omega (arith, l .drawn-fits);
+            in-measured = omega (arith, l .measured-fits);
+            whole = rw (g, q) (pixels-whole sizes k);
+            small = omega (arith, pixels-≤ sizes (a .sides) k (omega arith));
+          };
+      fits = omega (arith, start-≤ sizes (a .sides) (k + 1) (omega arith), a .few);
+      report = omega (arith, l .reports-fit);
+    }

@@ -3,7 +3,9 @@
 --     Reports     the reports of the first stills, and their sums
 --     Planes      a still is the distance of its two parts of the planes
 --     Bounds      how far the numbers grow
+--     Answers     the answer of the whole call, by its three ways out
 pub mod Sizes
 pub mod Reports
 pub mod Planes
 pub mod Bounds
+pub mod Answers

@@ -1,69 +1,50 @@
+-- `distance::distance` meets its contract. Assumes nothing.
+use mathlib.Core.Path.{sym, _∙_}
+use native.Mathlib.Omega.{arith}
 use borrow.Author.Needs.{needs}
+use Rattle.distance.proofs.Sizes.{accepted}
+use Rattle.distance.proofs.Answers.{no-places, refused, given}
 use Rattle.distance.proofs.distance.Statement.{statement}
 use Rattle.distance.proofs.distance.Tie as tie
-use Rattle.distance.proofs.distance.Reads as reads
-use Rattle.distance.proofs.distance.Lts as lts
-use Rattle.distance.proofs.nothing.Reads as nothing-reads
-use Rattle.distance.proofs.put.Reads as put-reads
-use Rattle.distance.proofs.refusal.Reads as refusal-reads
-use Rattle.distance.proofs.report_each.Reads as report-each-reads
 
--- src/lib.rt:187:9
 returns : tie.Need-returns
-returns c = ?
+returns c = no-places _ _ _ _ _ (c .if1 .taken)
 
--- src/lib.rt:189:9
-refusal-requires : tie.Need-refusal-requires
-refusal-requires c κs = search needs
-
--- src/lib.rt:191:21
-nothing-requires : tie.Need-nothing-requires
-nothing-requires c κs = search needs
-
--- src/lib.rt:191:9
-put-requires : tie.Need-put-requires
-put-requires c κs = search needs
-
--- src/lib.rt:192:9
-same-length : tie.Need-same-length
-same-length c = search needs
-
--- src/lib.rt:192:9
 returns-2 : tie.Need-returns-2
-returns-2 c = ?
+returns-2 c =
+    let put = c .before .before in
+    let nothing = put .before in
+    let if2 = nothing .before .before in
+    let refusal = if2 .before in
+    let if1 = refusal .before in
+    refused _ _ _ _ _ (if1 .if1 .left) _ (refusal .refusal .ensures) _ _ (if2 .if2 .taken) (nothing .nothing .ensures) (put .put .ensures)
 
--- src/lib.rt:194:9
 report-each-requires : tie.Need-report-each-requires
-report-each-requires c κs = ?
+report-each-requires c κs =
+    let if2 = c .before in
+    accepted _ _ _ _ (sym (if2 .before .refusal .ensures) ∙ if2 .if2 .left)
 
--- src/lib.rt:195:5
-put-requires-2 : tie.Need-put-requires-2
-put-requires-2 c κs = search needs
-
--- src/lib.rt:176:1
-same-length-2 : tie.Need-same-length-2
-same-length-2 c = search needs
-
--- src/lib.rt:176:1
-same-length-3 : tie.Need-same-length-3
-same-length-3 c = search needs
-
--- src/lib.rt:176:1
 returns-3 : tie.Need-returns-3
-returns-3 c = ?
+returns-3 c =
+    let put = c .before .before in
+    let each = put .before .before .before .before in
+    let if2 = each .before .before in
+    let refusal = if2 .before in
+    let if1 = refusal .before in
+    given _ _ _ _ _ (if1 .if1 .left) _ (refusal .refusal .ensures) _ _ _ (if2 .if2 .left) (each .report-each .ensures .0) (each .report-each .ensures .1) (put .put2 .ensures)
 
 pub distance-spec : {M : Type 1} → statement M
 distance-spec =
     tie.close
     (tie.spec
     returns
-    refusal-requires
-    nothing-requires
-    put-requires
-    same-length
+    (λ c κs. tt)
+    (λ c κs. tt)
+    (λ c κs. search needs)
+    (λ c. search needs)
     returns-2
     report-each-requires
-    put-requires-2
-    same-length-2
-    same-length-3
+    (λ c κs. search needs)
+    (λ c. search needs)
+    (λ c. search needs)
     returns-3)

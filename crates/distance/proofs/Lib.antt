@@ -4,8 +4,12 @@
 --     Planes      a still is the distance of its two parts of the planes
 --     Bounds      how far the numbers grow
 --     Answers     the answer of the whole call, by its three ways out
+--     Exchange    exchanging drawn and measured changes nothing
+--     OneAnswer   the public promise admits one answer only
 pub mod Sizes
 pub mod Reports
 pub mod Planes
 pub mod Bounds
 pub mod Answers
+pub mod Exchange
+pub mod OneAnswer

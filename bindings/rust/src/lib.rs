@@ -23,9 +23,12 @@
 //! The calls that draw, and [`inverse_dct_add_into`], also say how many sums of prediction and residue were below 0 or
 //! above 255 before they were clamped.
 //!
+//! [`distance`] says how far drawn luma planes are from measured ones.
+//!
 //! A call that can be refused answers with a [`Reply`]. Where the types rule every refusal out, the function returns its
 //! result as it is. [`raw`] has the C functions themselves.
 
+mod distance;
 mod macroblock;
 mod modes;
 mod neighbors;
@@ -36,6 +39,7 @@ mod shelf;
 mod still;
 mod transform;
 
+pub use distance::{distance, Distance, Distances};
 pub use macroblock::{gather, macroblock, right_pixels, Macroblock};
 pub use modes::{IntraBmode, IntraUvMode, IntraYMode, MbModes};
 pub use neighbors::Neighbors;

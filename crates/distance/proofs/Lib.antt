@@ -6,6 +6,7 @@
 --     Answers     the answer of the whole call, by its three ways out
 --     Exchange    exchanging drawn and measured changes nothing
 --     OneAnswer   the public promise admits one answer only
+--     Measured    what the call tells of its stills: the theorems
 pub mod Sizes
 pub mod Reports
 pub mod Planes
@@ -13,3 +14,4 @@ pub mod Bounds
 pub mod Answers
 pub mod Exchange
 pub mod OneAnswer
+pub mod Measured

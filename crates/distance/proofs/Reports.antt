@@ -41,7 +41,7 @@ module _ (f : ℕ → Distance) where
   unfolding reportsAfter
   report-turn k d l m m′ e h q = turns-step k (λ i m. putReport i (f i) m) l m m′ e (q ∙ ap (λ (x : Distance). putReport k x m) h)
 
-  joined-length : (n : ℕ) → length (joined n (λ k. reportOf (f k))) ≡ 3 * n
+  pub joined-length : (n : ℕ) → length (joined n (λ k. reportOf (f k))) ≡ 3 * n
   unfolding joined reportOf
   joined-length zero = sym (mul-zero 3)
   joined-length (suc n) = length-append (joined n (λ k. reportOf (f k))) _ ∙ rw (joined-length n, mul-suc 3 n) (omega arith)

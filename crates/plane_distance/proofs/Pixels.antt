@@ -1,9 +1,14 @@
--- Two pixels: they are equal where they are not apart, and bytes are at most 255 apart. Assumes nothing.
-use Prim.Native.Nat.{ℕ, _+_, _*_, _-_, _<_, _≤_}
+-- Two pixels: they are equal where they are not apart, and bytes are at most 255 apart.
+--     apart-none                                no difference, as a test
+--     square-none                               no square: the pixels are equal
+--     apart-equal, square-equal, same-equal     equal pixels: no difference, no square, and they count
+--     apart-≤, square-≤, same-≤                 how large each may be
+-- Assumes nothing.
+use Prim.Native.Nat.{ℕ, zero, suc, _+_, _*_, _-_, _<_, _≤_}
 use mathlib.Core.Bool.{Bool, true, false}
 use mathlib.Core.List.{List}
-use mathlib.Core.Path.{_≡_, sym, ap}
-use native.Mathlib.Nat.{mul-le-mul}
+use mathlib.Core.Path.{_≡_, refl, sym, ap}
+use native.Mathlib.Nat.{mul-le-mul, suc-mul}
 use native.Mathlib.Omega.{arith}
 use borrow.Author.Tests.{eq-eqb}
 use lib.Dec.{eqb, eqb→eq}
@@ -21,6 +26,29 @@ apart-none x y =
 one-at-most : (b : Bool) → pick b 1 0 ≤ 1
 one-at-most true = omega arith
 one-at-most false = omega arith
+
+-- ---- at a place: no square, no difference and equal pixels are one thing
+square-zero : (n : ℕ) → n * n ≡ 0 → n ≡ 0
+square-zero zero e = refl
+square-zero (suc n) e = absurd (omega (arith, suc-mul n (suc n), e))
+
+module _ (a b : List ℕ) (i : ℕ) where
+  pub square-none : squareAt a b i ≡ 0 → getD a i 0 ≡ getD b i 0
+  unfolding squareAt apartAt
+  square-none e = omega (arith, square-zero (apartAt a b i) e)
+
+  module _ (e : getD a i 0 ≡ getD b i 0) where
+    pub apart-equal : apartAt a b i ≡ 0
+    unfolding apartAt
+    apart-equal = omega arith
+
+    pub square-equal : squareAt a b i ≡ 0
+    unfolding squareAt
+    square-equal = rw apart-equal
+
+    pub same-equal : sameAt a b i ≡ 1
+    unfolding sameAt
+    same-equal = rw (eq-eqb (getD a i 0) (getD b i 0) e)
 
 -- every element is a byte
 abbrev pub Bytes : List ℕ → Type 0

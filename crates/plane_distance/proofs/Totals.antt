@@ -3,6 +3,7 @@
 --     total-≤, largest-≤            how far they grow; largest-at, total-at, that each number is at most as large
 --     total-ext, largest-ext        rules that agree
 --     total-add, largest-add        in two parts
+--     total-all                     every number the same
 --     total-lanes, largest-lanes    lane by lane: w lanes of h, number j of lane k being number w j + k of all
 -- Assumes nothing.
 use mathlib.Core.Path.{_≡_, refl, sym, ap, _∙_}
@@ -66,6 +67,12 @@ pub largest-add : (m n : ℕ) (f : ℕ → ℕ) → largest (m + n) f ≡ max (l
 unfolding largest
 largest-add m zero f = rw add-zero (omega arith)
 largest-add m (suc n) f = rw add-suc (omega (arith, largest-add m n f))
+
+-- ---- every number the same
+pub total-all : (m n : ℕ) (f : ℕ → ℕ) → ((i : ℕ) → i < n → f i ≡ m) → total n f ≡ n * m
+unfolding total
+total-all m zero f h = omega arith
+total-all m (suc n) f h = omega (arith, total-all m n f (λ i l. h i (omega arith)), h n (omega arith), suc-mul n m)
 
 -- ---- lane by lane
 total-none : (n : ℕ) → total n (λ i. 0) ≡ 0

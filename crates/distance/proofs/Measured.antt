@@ -1,21 +1,21 @@
 -- What the call tells of its stills. Each theorem speaks of the reply r, of the reports and of the totals as `distance` leaves them: `Answered` is its promise.
---     by-pixel           a report, by the pixels of its still
---     totals-of          the totals are the reports' sums and their largest
---     totals-fit         no total passes 64 bits: at most 71,495,743,596,134,400 for 4,096 stills of 1,024 by 1,024 macroblocks, 255, and 1,099,511,627,776
---     equal-exactly      a still's distance is 0 exactly where all its pixels are equal, and then each of them counts as equal
---     list-equal         the same over the list
---     exchanged          exchanging drawn and measured changes nothing
---     no-stills          an empty list gives zeros
---     refused-keeps      a refusal keeps the reports, and its totals are zeros
+--     by-pixel                            a report, by the pixels of its still
+--     totals-of                           the totals are the reports' sums and their largest
+--     totals-fit, totals-64-bits          no total passes 64 bits: at most 71,495,743,596,134,400 for 4,096 stills of 1,024 by 1,024 macroblocks, 255, and 1,099,511,627,776
+--     zero-equal, equal-zero              a still's distance is 0 exactly where all its pixels are equal, and then each of them counts as equal
+--     list-zero-equal, list-equal-zero    the same over the list
+--     exchanged                           exchanging drawn and measured changes nothing
+--     no-stills                           an empty list gives zeros
+--     refused-keeps                       a refusal keeps the reports, and its totals are zeros
 -- Assumes nothing.
 use Prim.Native.Nat.{ℕ, zero, suc, _+_, _*_, _/_, _<_, _≤_}
 use mathlib.Core.Bool.{Bool, true, false}
 use mathlib.Core.List.{List, [], _∷_, _++_}
 use mathlib.Core.Logic.{⊎-elim}
-use mathlib.Core.Path.{_≡_, refl, sym, ap, subst, _∙_}
-use native.Mathlib.Nat.{eq-or-lt-of-le, le-of-suc-le-suc, mul-one, mul-le-mul}
+use mathlib.Core.Path.{_≡_, refl, sym, ap, _∙_}
+use native.Mathlib.Nat.{eq-or-lt-of-le, le-of-suc-le-suc, mul-one}
 use native.Mathlib.Omega.{arith}
-use borrow.Author.Tests.{eq-eqb, ne-eqb, eqb-true, eqb-false}
+use borrow.Author.Tests.{eq-eqb, eqb-true, eqb-false}
 use lib.Dec.{eqb}
 use lib.ListN.{length, getD, List·getD-append}
 use lib.Seq.{getD-append-add}
@@ -24,12 +24,12 @@ use Rattle.macroblock.specs.Reply.{done, wrongLength}
 use Rattle.plane_distance.specs.Sums.{total, largest}
 use Rattle.plane_distance.specs.Apart.{apartAt, squareAt, sameAt, distanceFrom, noDistance}
 use Rattle.plane_distance.specs.declared.Distance.{Distance}
-use Rattle.plane_distance.proofs.Totals.{total-ext, largest-ext, total-≤, total-at, largest-≤, total-all}
-use Rattle.plane_distance.proofs.Pixels.{Bytes, square-none, apart-equal, same-equal}
+use Rattle.plane_distance.proofs.Totals.{total-ext, largest-ext, total-at, largest-≤, total-all}
+use Rattle.plane_distance.proofs.Pixels.{Bytes, square-none, apart-equal, square-equal, same-equal}
 use Rattle.distance.specs.Words.{_beside_, joined}
 use Rattle.distance.specs.Stills.{pixelsOf, startOf, reportOf, stillAt, reported, summed}
-use Rattle.distance.specs.Answer.{refusal, answered, distanceAnswer, Accepted}
-use Rattle.distance.proofs.Sizes.{accepted, lengths-say, start-within}
+use Rattle.distance.specs.Answer.{sidesOk, lengthsOk, refusal, distanceAnswer, Accepted}
+use Rattle.distance.proofs.Sizes.{accepted, lengths-say}
 use Rattle.distance.proofs.Reports.{joined-length}
 use Rattle.distance.proofs.Bounds.{sum-squares-≤, sum-largest-≤, sum-equal-≤}
 use Rattle.distance.proofs.Exchange.{answer-swap}

@@ -9,7 +9,7 @@ use mathlib.Core.Path.{_≡_, refl, sym, ap, _∙_}
 use borrow.Author.Tests.{eq-eqb, ne-eqb}
 use lib.Dec.{eqb}
 use lib.ListN.{length}
-use Rattle.macroblock.specs.Reply.{done, wrongLength}
+use Rattle.macroblock.specs.Reply.{wrongLength}
 use Rattle.plane_distance.specs.Apart.{noDistance}
 use Rattle.plane_distance.specs.declared.Distance.{Distance}
 use Rattle.distance.specs.Words.{_beside_}
@@ -25,11 +25,11 @@ module _ (sizes drawn measured reports totals : List ℕ) where
   no-places h = rw (ne-eqb (length totals) 3 h)
 
   module _ (places : length totals ≡ 3) (r : ℕ) (e : r ≡ refusalOf) where
-    pub refused : (t : List ℕ) (d : Distance) → (r ≡ 0 → ⊥) → d ≡ noDistance → t ≡ reportOf d → (r beside reports beside t) ≡ distanceAnswer sizes drawn measured reports totals
+    pub refused : (t : List ℕ) → (r ≡ 0 → ⊥) → t ≡ reportOf noDistance → (r beside reports beside t) ≡ distanceAnswer sizes drawn measured reports totals
     unfolding distanceAnswer
-    refused t d h z q = rw (eq-eqb (length totals) 3 places, ← e, ne-eqb r 0 h, q, z)
+    refused t h q = rw (eq-eqb (length totals) 3 places, ← e, ne-eqb r 0 h, q)
 
     pub given : (t made : List ℕ) (d : Distance) → r ≡ 0 → d ≡ summed sizes drawn measured (length sizes / 2)
-        → made ≡ reported sizes drawn measured (length sizes / 2) → t ≡ reportOf d → (done beside made beside t) ≡ distanceAnswer sizes drawn measured reports totals
+        → made ≡ reported sizes drawn measured (length sizes / 2) → t ≡ reportOf d → (r beside made beside t) ≡ distanceAnswer sizes drawn measured reports totals
     unfolding distanceAnswer
-    given t made d z s m q = rw (eq-eqb (length totals) 3 places, ← e, eq-eqb r 0 z, q, s, m)
+    given t made d z s m q = rw (eq-eqb (length totals) 3 places, ← e, eq-eqb r 0 z, z, q, s, m)

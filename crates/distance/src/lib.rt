@@ -127,6 +127,17 @@ fn together(x: Distance, y: Distance) -> Distance
     }
 }
 
+// Three zeros.
+fn clear(totals: &mut [u64])
+    requires { ⌜ length (now totals) ≡ 3 ⌝ }
+    ensures { λ _. ⌜ now (totals .exit) ≡ reportOf noDistance ⌝ }
+{
+    let places = totals.len();
+    for i in 0..places {
+        totals[i] = 0;
+    }
+}
+
 fn put(to: &mut [u64], d: Distance)
     requires { ⌜ length (now to) ≡ 3 ⌝ }
     ensures { λ _. ⌜ now (to .exit) ≡ reportOf d ⌝ }
@@ -188,10 +199,10 @@ pub fn distance(
     }
     let refused = refusal(sizes, drawn.len(), measured.len(), reports.len());
     if refused != reply::DONE {
-        put(totals, nothing());
+        clear(totals);
         return refused;
     }
     let sum = report_each(sizes, drawn, measured, reports);
     put(totals, sum);
-    reply::DONE
+    refused
 }

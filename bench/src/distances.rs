@@ -46,7 +46,8 @@ struct Job {
 
 impl Job {
     fn new(size: [u32; 2]) -> Job {
-        let drawn: Vec<u8> = (0..256 * size[0] * size[1]).map(|i| (i.wrapping_mul(2_654_435_761) >> 24) as u8).collect();
+        let drawn: Vec<u8> =
+            (0..256 * size[0] * size[1]).map(|i| (i.wrapping_mul(2_654_435_761) >> 24) as u8).collect();
         Job { size, same: drawn.clone(), other: drawn.iter().map(|x| x ^ 0xA5).collect(), drawn }
     }
 

@@ -330,6 +330,22 @@ mod tests {
     }
 
     #[test]
+    fn the_difference_of_the_room_s_own_pixels() {
+        // 17 by 2 pixels in two macroblocks: what stands beyond is not drawn
+        let (mut drawn, mut measured) = (vec![9; 512], vec![9; 512]);
+        (drawn[16], measured[32]) = (29, 10);
+        let room = Room { name: String::new(), width: 17, height: 2, cols: 2, rows: 1, drawn, measured };
+        let mut file = Vec::new();
+        room.draw_difference(&mut file).unwrap();
+        let picture = png_read::read(&file, 17, 2).unwrap();
+        let mut expected = vec![0; 3 * 34];
+        expected[3 * 16] = 160;
+        expected[3 * 17 + 2] = 64;
+        assert_eq!((picture.each, picture.bytes), (3, expected));
+        assert_eq!((room.pixels(), room.beyond()), (34, 478));
+    }
+
+    #[test]
     fn rounding() {
         let line = |squares, equal, pixels| {
             Line { name: String::new(), found: Distance { squares, largest: 3, equal }, pixels }.cells()

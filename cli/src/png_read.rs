@@ -54,7 +54,9 @@ fn head(file: &[u8]) -> Result<(u32, u32, usize, &[u8]), String> {
                 6 => "RGB with alpha",
                 _ => "an unknown kind of pixel",
             };
-            return Err(format!("its pixels are {what} of {bits} bits a sample, and only grey or RGB of 8 bits is read"));
+            return Err(format!(
+                "its pixels are {what} of {bits} bits a sample, and only grey or RGB of 8 bits is read"
+            ));
         }
     };
     if head[10] != 0 || head[11] != 0 {

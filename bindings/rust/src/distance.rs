@@ -1,6 +1,6 @@
 //! How far drawn stills are from measured ones, in whole numbers.
 
-use crate::raw;
+use crate::call::call;
 use crate::reply::answer;
 use crate::Reply;
 
@@ -53,22 +53,7 @@ pub fn distance(sizes: &[[u32; 2]], drawn: &[u8], measured: &[u8]) -> Result<Dis
     let sizes = sizes.as_flattened();
     // a list that is refused for its length asks for no room
     let mut reports = vec![[0u64; 3]; if sizes.len() > 8192 { 0 } else { sizes.len() / 2 }];
-    let places = reports.as_flattened_mut();
     let mut total = [0u64; 3];
-    // SAFETY: each pointer comes from a slice with its length, and nothing that is written overlaps another slice.
-    answer(unsafe {
-        raw::zopredil_distance(
-            sizes.as_ptr(),
-            sizes.len(),
-            drawn.as_ptr(),
-            drawn.len(),
-            measured.as_ptr(),
-            measured.len(),
-            places.as_mut_ptr(),
-            places.len(),
-            total.as_mut_ptr(),
-            total.len(),
-        )
-    })?;
+    answer(call!(zopredil_distance(in sizes, in drawn, in measured, out reports.as_flattened_mut(), out total)))?;
     Ok(Distances { stills: reports.into_iter().map(Distance::from).collect(), total: total.into() })
 }

@@ -124,9 +124,10 @@ pub fn distances(run: &mut Run) -> u64 {
         (*x, *y) = ((i >> 8) as u8, i as u8);
     }
     try_lists(&mut tally, &pairs);
-    // the farthest that planes can be apart; sizes around the 255 turns of 64 pixels that are counted in bytes, of which
-    // one has 63.75 macroblocks
-    for sizes in [&[1, 1][..], &[63, 1], &[64, 1], &[65, 1], &[255, 1], &[256, 2], &[1024, 1, 1, 1024], &[91, 77, 3, 5]] {
+    // the farthest that planes can be apart, in sizes around the 255 turns of 64 pixels that are counted in bytes: they
+    // are 63.75 macroblocks
+    for sizes in [&[1, 1][..], &[63, 1], &[64, 1], &[65, 1], &[255, 1], &[256, 2], &[1024, 1, 1, 1024], &[91, 77, 3, 5]]
+    {
         for (x, y) in [(0, 255), (255, 0), (0, 0), (255, 255), (128, 127)] {
             let mut lists = Lists::new(sizes);
             lists.drawn.fill(x);

@@ -17,6 +17,7 @@
  *     6  not used: no call answers with it
  *     7  the picture's size or the macroblock's place is outside its limits
  *     8  a byte is no mode's number, or a skip or mark byte is neither 0 nor 1
+ *    12  a list has more stills than 4,096
  *
  * Of the slices that are written, plane and the y, u and v of a still are planes, which hold a picture: a refusal
  * leaves them as they were, but for the finished macroblocks of a still. coeffs is dequantised where it stands, and a
@@ -220,6 +221,29 @@ uint32_t zopredil_shelf(const uint8_t *modes, size_t modes_len, const uint8_t *r
                         const uint8_t *sub_modes, size_t sub_modes_len, const int16_t *coeffs, size_t coeffs_len,
                         uint8_t *out, size_t out_len, uint8_t *replies, size_t replies_len, uint64_t *clipped,
                         size_t clipped_len);
+
+/* How far n drawn stills are from measured ones, pixel by pixel of their luma planes, where n may be 0. sizes has 2 n
+ * numbers, columns and rows of each still in macroblocks: each side is 1 to 1,024, and there are no more than 4,096
+ * stills. The planes of all stills stand one behind another in drawn and in measured, 256 bytes a macroblock, in the same
+ * order of pixels:
+ *
+ *     sizes      c0 r0       c1 r1      ..
+ *     drawn      |still 0   |still 1   |..     256 * c * r bytes each
+ *     measured   |still 0   |still 1   |..
+ *     reports    s l e       s l e      ..     3 n numbers: for each still
+ *     totals     s l e                         3 numbers: over the list
+ *
+ *     s  the sum of the squared differences; over the list, the sum of these
+ *     l  the largest difference, without its sign; over the list, the largest of these
+ *     e  the number of equal pixels; over the list, the sum of these
+ *
+ * No sum passes 71,495,743,596,134,400: 4,096 stills of 1,024 by 1,024 macroblocks, 255 apart everywhere. The time hangs
+ * on the number of pixels alone. Replies: 1 for totals, nothing written; 12 for more than 8,192 numbers in sizes; 7 for
+ * any of them that is 0 or above 1,024; 1 for an odd number of them, for drawn, for measured and for reports, in numbers
+ * without bound; after these the reports are as found and the totals are zeros. */
+uint32_t zopredil_distance(const uint32_t *sizes, size_t sizes_len, const uint8_t *drawn, size_t drawn_len,
+                           const uint8_t *measured, size_t measured_len, uint64_t *reports, size_t reports_len,
+                           uint64_t *totals, size_t totals_len);
 
 #ifdef __cplusplus
 }

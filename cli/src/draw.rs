@@ -162,7 +162,7 @@ fn found(still: &StillFile, picture: &Picture, clipped: u64) -> Result<Marks, St
 }
 
 /// The still as the library draws it, uncropped, and how many of its pixels are clipped.
-fn planes(still: &StillFile) -> Result<(Picture, u64), String> {
+pub fn planes(still: &StillFile) -> Result<(Picture, u64), String> {
     let Sizes { width, height, cols, rows } = still.sizes;
     let count = still.sizes.count();
     let plane = |bytes: usize| {

@@ -11,11 +11,15 @@
 mod clipped;
 mod command;
 mod deflate;
+mod distance;
 mod draw;
+mod inflate;
 mod input;
 mod output;
+mod pgm;
 mod picture;
 mod png;
+mod png_read;
 mod progress;
 mod still_file;
 mod words;

@@ -8,6 +8,9 @@
 use crate::deflate::Deflate;
 use std::io::{self, Write};
 
+/// The bytes that a file begins with.
+pub const SIGNATURE: &[u8; 8] = b"\x89PNG\r\n\x1a\n";
+
 /// Bytes from which on the stream is cut into another chunk.
 const CHUNK: usize = 1 << 16;
 
@@ -29,7 +32,7 @@ impl<W: Write> Png<W> {
         head[4..8].copy_from_slice(&height.to_be_bytes());
         head[8] = 8; // bits a sample
         head[9] = if color { 2 } else { 0 };
-        to.write_all(b"\x89PNG\r\n\x1a\n")?;
+        to.write_all(SIGNATURE)?;
         chunk(&mut to, b"IHDR", &head)?;
         let pixel = if color { 3 } else { 1 };
         let mut stream = Deflate::new();
@@ -88,7 +91,7 @@ fn chunk(to: &mut impl Write, name: &[u8; 4], bytes: &[u8]) -> io::Result<()> {
 }
 
 /// CRC-32 as PNG has it: the polynomial 0xEDB88320, low bit first.
-fn crc<'a>(bytes: impl Iterator<Item = &'a u8>) -> u32 {
+pub fn crc<'a>(bytes: impl Iterator<Item = &'a u8>) -> u32 {
     const TABLE: [u32; 256] = {
         let mut table = [0; 256];
         let mut n = 0;
@@ -108,22 +111,22 @@ fn crc<'a>(bytes: impl Iterator<Item = &'a u8>) -> u32 {
 }
 
 /// Adler-32 (RFC 1950): two sums modulo 65,521.
-struct Adler {
+pub struct Adler {
     a: u32,
     b: u32,
 }
 
 impl Adler {
-    fn new() -> Adler {
+    pub fn new() -> Adler {
         Adler { a: 1, b: 0 }
     }
 
-    fn byte(&mut self, byte: u8) {
+    pub fn byte(&mut self, byte: u8) {
         self.a = (self.a + u32::from(byte)) % 65521;
         self.b = (self.b + self.a) % 65521;
     }
 
-    fn sum(&self) -> u32 {
+    pub fn sum(&self) -> u32 {
         self.b << 16 | self.a
     }
 }

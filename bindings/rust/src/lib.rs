@@ -62,6 +62,8 @@
 //! The calls that draw, and [`inverse_dct_add_into`], also say how many sums of prediction and residue were below 0 or
 //! above 255 before they were clamped.
 //!
+//! [`distance`] says how far drawn luma planes are from measured ones.
+//!
 //! A call that can be refused answers with a [`Reply`], which is an [`Error`](std::error::Error). Where the types rule
 //! every refusal out, the function returns its result as it is. [`raw`] has the C functions themselves.
 //!
@@ -76,6 +78,7 @@
 
 // A further call is declared in raw.rs and has its safe function in a file of its own, named here.
 mod call;
+mod distance;
 mod macroblock;
 mod modes;
 mod neighbors;
@@ -86,6 +89,7 @@ mod shelf;
 mod still;
 mod transform;
 
+pub use distance::{distance, Distance, Distances};
 pub use macroblock::{gather, macroblock, right_pixels, Macroblock};
 pub use modes::{IntraBmode, IntraUvMode, IntraYMode, MbModes};
 pub use neighbors::{ChromaEdges, LumaEdges, Neighbors};

@@ -133,4 +133,14 @@ extern "C" {
         replies: *mut u8, replies_len: usize,
         clipped: *mut u64, clipped_len: usize,
     ) -> u32;
+
+    /// The distance of n drawn stills from measured ones; `sizes` 2 n, `drawn` and `measured` the pixels of all stills,
+    /// `reports` 3 n, `totals` 3.
+    pub fn zopredil_distance(
+        sizes: *const u32, sizes_len: usize,
+        drawn: *const u8, drawn_len: usize,
+        measured: *const u8, measured_len: usize,
+        reports: *mut u64, reports_len: usize,
+        totals: *mut u64, totals_len: usize,
+    ) -> u32;
 }

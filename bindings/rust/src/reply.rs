@@ -20,10 +20,12 @@ pub enum Reply {
     OutsidePicture = 7,
     /// A byte is no mode's number, or a skip or mark byte is neither 0 nor 1.
     UnknownByte = 8,
+    /// A list has more stills than 4,096.
+    TooMany = 12,
 }
 
 impl Reply {
-    const ALL: [Reply; 7] = [
+    const ALL: [Reply; 8] = [
         Reply::WrongLength,
         Reply::OutsidePlane,
         Reply::BPredNotSupported,
@@ -31,6 +33,7 @@ impl Reply {
         Reply::IndexSum,
         Reply::OutsidePicture,
         Reply::UnknownByte,
+        Reply::TooMany,
     ];
 
     /// The reply's number.
@@ -42,7 +45,7 @@ impl Reply {
         self as u32
     }
 
-    /// The reply of a number: none for 0, which is no refusal, for 6, which is not used, and for numbers above 8.
+    /// The reply of a number: none for 0, which is no refusal, and for numbers that are not used.
     ///
     /// ```
     /// use zopredil::Reply;
@@ -66,6 +69,7 @@ impl fmt::Display for Reply {
             Reply::IndexSum => "a sum of quantiser indices is outside signed 32 bits",
             Reply::OutsidePicture => "the picture's size or the macroblock's place is outside its limits",
             Reply::UnknownByte => "a byte is no mode's number, or a skip or mark byte is neither 0 nor 1",
+            Reply::TooMany => "a list has more stills than 4,096",
         })
     }
 }

@@ -197,3 +197,20 @@ pub fn still(given: Still<'_>, right: Option<&[u8]>, planes: Planes<'_>, clipped
         }
     }
 }
+
+pub fn distance(sizes: &[u32], drawn: &[u8], measured: &[u8], reports: &mut [u64], totals: &mut [u64]) -> u32 {
+    unsafe {
+        raw::zopredil_distance(
+            start(sizes),
+            sizes.len(),
+            start(drawn),
+            drawn.len(),
+            start(measured),
+            measured.len(),
+            start_mut(reports),
+            reports.len(),
+            start_mut(totals),
+            totals.len(),
+        )
+    }
+}

@@ -2,6 +2,7 @@
 //! project's papers. A line for each function says how many calls were compared and how many differ; the status is 1
 //! where any does.
 
+mod distances;
 mod gathering;
 mod lengths;
 mod library;
@@ -62,13 +63,15 @@ fn compare() -> Result<bool, String> {
     gathering::right_pixels(&mut run);
     let stills = stills::stills(&mut run);
     let shelved = shelves::shelves(&mut run);
+    let measured = distances::distances(&mut run);
+    distances::refused(&mut run);
     lengths::wrong_lengths(&mut run);
     if let Some(file) = words.sample {
         let bytes = std::fs::read(&file).map_err(|why| format!("{file}: {why}"))?;
         replay::sample(&bytes, &mut run);
     }
-    print!("in all {blocks} blocks, {macroblocks} macroblocks, {stills} stills and {shelved} macroblocks on shelves; ");
-    println!("differing {}", run.differing);
+    print!("in all {blocks} blocks, {macroblocks} macroblocks, {stills} stills, {shelved} macroblocks on shelves and ");
+    println!("{measured} measured stills; differing {}", run.differing);
     Ok(run.differing == 0)
 }
 

@@ -1,0 +1,4 @@
+-- A list of stills, and how far each is from its measurement.
+pub mod Words
+pub mod Stills
+pub mod Answer

@@ -1,0 +1,3 @@
+-- How far two planes are from each other.
+pub mod Apart
+pub mod Sums

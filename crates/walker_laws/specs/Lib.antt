@@ -1,0 +1,2 @@
+-- The rule of luma mode B, and what may move.
+pub mod Around

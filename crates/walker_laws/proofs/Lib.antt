@@ -3,3 +3,5 @@
 pub mod Border
 pub mod Shown
 pub mod Rule
+pub mod Agree
+pub mod Later

@@ -1,6 +1,7 @@
 -- Luma mode B by its rule: each sub-block of the answer is predicted from the answer's own pixels and the given borders.
 --     prediction-ruled   the prediction of sub-block k from the work buffer is the rule's from the finished macroblock
 --     walkB-ruled        the rule, of every accepted answer
+--     walkB-chroma-ruled, nonB-chroma-ruled     chroma by its rule
 --     walkB-near         demand 3 over the rule
 -- Assumes nothing.
 use Prim.Native.Nat.{ℕ, zero, suc, _+_, _-_, _*_, _/_, _%_, _<_, _≤_}
@@ -20,15 +21,16 @@ use Rattle.macroblock.specs.declared.modes.IntraBmode.the-variants.{Dc}
 use Rattle.macroblock.specs.declared.modes.MbModes.{MbModes}
 use Rattle.macroblock.specs.declared.neighbors.MbNeighbors.{MbNeighbors}
 use Rattle.rfc6386.specs.Subblock.{predictB}
-use Rattle.rfc6386.specs.Walk.{blockAt, startOf, cornerOf, aboveIn, leftIn, topLeftIn, subPrediction, subPixels, walked, yParts}
+use Rattle.rfc6386.specs.Walk.{blockAt, startOf, cornerOf, aboveIn, leftIn, topLeftIn, subPrediction, subPixels, walked, yParts, uPlane, vPlane}
 use Rattle.rfc6386.proofs.Parts.{parts-at}
 use Rattle.rfc6386.proofs.Subblock.{b-length}
 use Rattle.sub_blocks.proofs.Windows.{above-is, left-is}
-use Rattle.reconstruct.specs.Answers.{partsOf, walkB}
+use Rattle.reconstruct.specs.Answers.{wholeOf, partsOf, nonB, walkB}
 use Rattle.reconstruct.specs.declared.ReconstructedMb.{ReconstructedMb}
-use Rattle.reconstruct.proofs.Replies.{walkB-accepted}
+use Rattle.reconstruct.proofs.Replies.{nonB-accepted, walkB-accepted}
 use Rattle.reconstruct.proofs.Demand3.{Blocks8191, Near, walkB-y}
 use Rattle.walker_laws.specs.Around.{around, aboveSub, leftSub, cornerSub, predictSub, placeIn, subOf, Ruled}
+use Rattle.walker_laws.specs.Chroma.{lumaOfB, lumaOf16x16, chromaU, chromaV}
 use Rattle.walker_laws.proofs.Border.{below}
 use Rattle.walker_laws.proofs.Shown.{Ready, shown}
 
@@ -123,9 +125,21 @@ module _ (subs : List IntraBmode) (there : Bool) (m : MbModes) (n : MbNeighbors)
   pub walkB-ruled : Ruled subs (m .skip) n c (r .y)
   walkB-ruled = rw luma-is (parts-ruled subs (m .skip) n c)
 
+  pub walkB-chroma-ruled : (r .u ≡ chromaU lumaOfB (m .uv) (m .skip) n c) × (r .v ≡ chromaV lumaOfB (m .uv) (m .skip) n c)
+  unfolding partsOf uPlane vPlane chromaU chromaV
+  walkB-chroma-ruled = (ap (λ (x : ReconstructedMb). x .u) is-parts, ap (λ (x : ReconstructedMb). x .v) is-parts)
+
   -- row i and column j of sub-block k
   pub walkB-near : m .skip ≡ false → Blocks8191 16 (blockAt c 0) → (k i j : ℕ) → k < 16 → i < 4 → j < 4
       → Near (r .y) ((4 * (k / 4) + i) * 16 + (4 * (k % 4) + j)) (blockAt c 0 k) i j (getD (predictSub subs n (r .y) k) (4 * i + j) 0)
   walkB-near coded h k i j hk hi hj =
       let e : yParts subs false n c ≡ r .y = sym (luma-is ∙ ap (λ (s : Bool). yParts subs s n c) coded) in
       rw (prediction-ruled subs false n c k hk, e) at (walkB-y subs there m n c r promise accepted coded h k i j hk hi hj)
+
+-- ---- what `decode_keyframe_mb_non_bpred` returns
+pub nonB-chroma-ruled : (m : MbModes) (n : MbNeighbors) (c : List ℤ) (r : ReconstructedMb) → r ≡ nonB m n c → r .reply ≡ done
+    → (r .u ≡ chromaU lumaOf16x16 (m .uv) (m .skip) n c) × (r .v ≡ chromaV lumaOf16x16 (m .uv) (m .skip) n c)
+unfolding wholeOf uPlane vPlane chromaU chromaV
+nonB-chroma-ruled m n c r promise accepted =
+    let e : r ≡ wholeOf (m .y) (m .uv) (m .skip) n c = promise ∙ nonB-accepted m n c (rw promise at accepted) .2 in
+    (ap (λ (x : ReconstructedMb). x .u) e, ap (λ (x : ReconstructedMb). x .v) e)

@@ -1,0 +1,48 @@
+-- Two calls of a still, and where their planes are the same.
+use Prim.Native.Nat.{ℕ, suc, _*_, _/_, _%_, _<_}
+use mathlib.Core.Path.{_≡_}
+use mathlib.Core.List.{List}
+use lib.IntN.{ℤ}
+use lib.ListN.{getD}
+use Rattle.still.specs.Picture.{Canvas}
+use Rattle.still.specs.Answers.{stillTold, aloneTold}
+use Rattle.still_laws.specs.Words.{Plane, inY, side, planeOf, pixelOf, lumaByte, chromaByte, skipByte, subsAt, coeffsAt}
+
+-- what a call is given for its macroblocks, and the planes as it finds them
+pub record Given : Type 0 where
+  pub modes : List ℕ
+  pub subs : List ℕ
+  pub coeffs : List ℤ
+  pub y : List ℕ
+  pub u : List ℕ
+  pub v : List ℕ
+
+-- ---- macroblock j is given the same: three mode bytes, sixteen sub-block bytes and 400 coefficients
+pub record SameAt (a b : Given) (j : ℕ) : Type 0 where
+  pub luma : lumaByte (a .modes) j ≡ lumaByte (b .modes) j
+  pub chroma : chromaByte (a .modes) j ≡ chromaByte (b .modes) j
+  pub skip : skipByte (a .modes) j ≡ skipByte (b .modes) j
+  pub sub-blocks : subsAt (a .subs) j ≡ subsAt (b .subs) j
+  pub coefficients : coeffsAt (a .coeffs) j ≡ coeffsAt (b .coeffs) j
+
+-- every macroblock but k is; the planes may be found equal or not
+abbrev pub SameBut : ℕ → Given → Given → Type 0
+SameBut k a b = (j : ℕ) → (j ≡ k → ⊥) → SameAt a b j
+
+-- ---- what the two calls answer: the planes, the reply and the index, beside the count
+abbrev pub stillOf : ℕ → ℕ → List ℕ → Given → Canvas × ℕ
+stillOf w h right a = stillTold w h (a .modes) (a .subs) (a .coeffs) right (a .y) (a .u) (a .v)
+
+abbrev pub aloneOf : ℕ → ℕ → Given → Canvas × ℕ
+aloneOf w h a = aloneTold w h (a .modes) (a .subs) (a .coeffs) (a .y) (a .u) (a .v)
+
+-- ---- macroblock j has the same pixels in the plane p of two pictures w macroblocks wide
+abbrev pub SamePixels : Plane → ℕ → ℕ → Canvas → Canvas → Type 0
+SamePixels p w j d e = (i x : ℕ) → i < side p → x < side p → getD (planeOf p d) (pixelOf p w j i x) 0 ≡ getD (planeOf p e) (pixelOf p w j i x) 0
+
+-- ---- places that read one another only, in one plane: with a macroblock, each that it reads. Only luma reads above right
+pub record ClosedIn (p : Plane) (P : ℕ → ℕ → Type 0) : Type 0 where
+  pub left : (r c : ℕ) → P r (suc c) → P r c
+  pub above-left : (r c : ℕ) → P (suc r) (suc c) → P r c
+  pub above : (r c : ℕ) → P (suc r) c → P r c
+  pub above-right : p ≡ inY → (r c : ℕ) → P (suc r) c → P r (suc c)

@@ -40,7 +40,7 @@ last-column : (n w r c i : ℕ) → 0 < n → n * r * (n * w) + (n * suc c - 1) 
 unfolding pixelAt
 last-column n w r c i h = omega arith
 
-last-pixel : (n w r c : ℕ) → 0 < n → (n * suc r - 1) * (n * w) + (n * suc c - 1) ≡ pixelAt n w r c (n - 1) (n - 1)
+pub last-pixel : (n w r c : ℕ) → 0 < n → (n * suc r - 1) * (n * w) + (n * suc c - 1) ≡ pixelAt n w r c (n - 1) (n - 1)
 last-pixel n w r c h =
     let e : (n * suc r - 1) * (n * w) + (n * suc c - 1) ≡ (n * suc r - 1) * (n * w) + n * c + (n - 1) = omega arith in
     e ∙ last-row n w r c (n - 1) h

@@ -3,3 +3,6 @@
 pub mod Edges
 pub mod Made
 pub mod Reached
+pub mod Steady
+pub mod Refused
+pub mod Before

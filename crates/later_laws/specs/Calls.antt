@@ -1,11 +1,14 @@
 -- Two calls of a still, and where their planes are the same.
-use Prim.Native.Nat.{ℕ, suc, _*_, _/_, _%_, _<_}
+use Prim.Native.Nat.{ℕ, suc, _<_, _≤_}
 use mathlib.Core.Path.{_≡_}
+use mathlib.Core.Bool.{true}
 use mathlib.Core.List.{List}
+use mathlib.Core.Logic.{_⊎_}
 use lib.IntN.{ℤ}
 use lib.ListN.{getD}
-use Rattle.still.specs.Picture.{Canvas}
-use Rattle.still.specs.Answers.{stillTold, aloneTold}
+use Rattle.macroblock.specs.Reply.{done}
+use Rattle.still.specs.Picture.{Canvas, firstClipped, rightGiven, rightRead}
+use Rattle.still.specs.Answers.{sizeOk, stillFits, aloneFits, stillTold, aloneTold}
 use Rattle.still_laws.specs.Words.{Plane, inY, side, planeOf, pixelOf, lumaByte, chromaByte, skipByte, subsAt, coeffsAt}
 
 -- what a call is given for its macroblocks, and the planes as it finds them
@@ -35,6 +38,24 @@ stillOf w h right a = stillTold w h (a .modes) (a .subs) (a .coeffs) right (a .y
 
 abbrev pub aloneOf : ℕ → ℕ → Given → Canvas × ℕ
 aloneOf w h a = aloneTold w h (a .modes) (a .subs) (a .coeffs) (a .y) (a .u) (a .v)
+
+-- the call has drawn its first k macroblocks: it is accepted, or refused at k or later
+abbrev pub DrawnTo : ℕ → Canvas → Type 0
+DrawnTo k d = (d .reply ≡ done) ⊎ (k ≤ d .index)
+
+-- its size and its lengths are accepted
+abbrev pub FitsStill : ℕ → ℕ → List ℕ → Given → Type 0
+FitsStill w h right a = (sizeOk w h ≡ true) × (stillFits w h (a .modes) (a .subs) (a .coeffs) right (a .y) (a .u) (a .v) ≡ true)
+
+abbrev pub FitsAlone : ℕ → ℕ → Given → Type 0
+FitsAlone w h a = (sizeOk w h ≡ true) × (aloneFits w h (a .modes) (a .subs) (a .coeffs) (a .y) (a .u) (a .v) ≡ true)
+
+-- what it has counted before macroblock k
+abbrev pub stillCount : ℕ → ℕ → List ℕ → Given → ℕ → ℕ
+stillCount w h right a k = firstClipped w h (a .modes) (a .subs) (a .coeffs) (rightGiven right) k (a .y) (a .u) (a .v)
+
+abbrev pub aloneCount : ℕ → ℕ → Given → ℕ → ℕ
+aloneCount w h a k = firstClipped w h (a .modes) (a .subs) (a .coeffs) (rightRead w h) k (a .y) (a .u) (a .v)
 
 -- ---- macroblock j has the same pixels in the plane p of two pictures w macroblocks wide
 abbrev pub SamePixels : Plane → ℕ → ℕ → Canvas → Canvas → Type 0

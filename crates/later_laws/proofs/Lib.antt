@@ -6,3 +6,5 @@ pub mod Reached
 pub mod Steady
 pub mod Refused
 pub mod Before
+pub mod Cones
+pub mod Later

@@ -5,3 +5,4 @@ pub mod Shown
 pub mod Rule
 pub mod Agree
 pub mod Later
+pub mod Moved

@@ -35,7 +35,7 @@ use Rattle.still_laws.proofs.Replies.{first-reply}
 use Rattle.later_laws.specs.Calls.{Given, SameAt, SamePixels, ClosedIn}
 use Rattle.later_laws.proofs.Made.{around, around-same}
 use Rattle.later_laws.proofs.Refused.{drawn-none}
-use Rattle.later_laws.proofs.Reached.{Steady, turnOf, AnsweredOf, finished-before, made-is, given-same, edges, reached}
+use Rattle.later_laws.proofs.Reached.{Steady, turnOf, AnsweredOf, finished-before, made-is, given-same, given-made, edges, reached}
 
 zero-or-not : (n : ℕ) → (n ≡ 0) ⊎ (n ≡ 0 → ⊥)
 zero-or-not zero = inl refl
@@ -146,7 +146,7 @@ module _ (w h : ℕ) (right : ℕ → List ℕ → List ℕ) (a b : Given) (one 
   module _ (steady : Within w h 0 0 → Steady w h right) where
     pub same-pixels : (j : ℕ) → j < k → Finished w h d j → (p : Plane) → SamePixels p w j d e
     same-pixels j l f p =
-        reached w h right steady a b d e answered answered-too p Earlier (earlier-closed p) (λ i q. same i (rw (by-place i) at q)) j f (same-finished j l f)
+        reached w h right steady a b d e answered answered-too p Earlier (earlier-closed p) (λ i q. given-made p a b i (same i (rw (by-place i) at q))) j f (same-finished j l f)
         (rw (by-place j) l)
 
     -- ---- the counts

@@ -21,13 +21,13 @@ abbrev pub SameBlock : ℕ → ℕ → List ℕ → List ℕ → ℕ → ℕ →
 SameBlock n w l m r c = (i x : ℕ) → i < n → x < n → getD l (pixelAt n w r c i x) 0 ≡ getD m (pixelAt n w r c i x) 0
 
 -- a part of both
-part-same : (l m : List ℕ) (n at : ℕ) → length l ≡ length m → ((i : ℕ) → i < n → getD l (at + i) 0 ≡ getD m (at + i) 0)
+pub part-same : {A : Type 0} (z : A) (l m : List A) (n at : ℕ) → length l ≡ length m → ((i : ℕ) → i < n → getD l (at + i) z ≡ getD m (at + i) z)
     → take n (drop at l) ≡ take n (drop at m)
-part-same l m n at e h =
-    ext-getD 0 (take n (drop at l)) (take n (drop at m)) (simp (length-take, length-drop, e))
+part-same z l m n at e h =
+    ext-getD z (take n (drop at l)) (take n (drop at m)) (simp (length-take, length-drop, e))
     (λ i k.
     let b : i < n = omega (arith, length-take n (drop at l)) in
-    getD-take n (drop at l) i 0 b ∙ getD-drop at l i 0 ∙ h i b ∙ sym (getD-take n (drop at m) i 0 b ∙ getD-drop at m i 0))
+    getD-take n (drop at l) i z b ∙ getD-drop at l i z ∙ h i b ∙ sym (getD-take n (drop at m) i z b ∙ getD-drop at m i z))
 
 -- ---- places of the edges: each is of the last row or the last column of the macroblock that it stands in
 last-row : (n w r c i : ℕ) → 0 < n → (n * suc r - 1) * (n * w) + n * c + i ≡ pixelAt n w r c (n - 1) i
@@ -51,7 +51,7 @@ module _ (n w : ℕ) (l m : List ℕ) (some : 0 < n) (long : length l ≡ length
   above-same zero c h = refl
   above-same (suc r) c h =
       rw (lt-ltb 0 (suc r) (omega arith))
-      (part-same l m n ((n * suc r - 1) * (n * w) + n * c) long (λ i k. rw (last-row n w r c i some) (h r refl (n - 1) i (omega arith) k)))
+      (part-same 0 l m n ((n * suc r - 1) * (n * w) + n * c) long (λ i k. rw (last-row n w r c i some) (h r refl (n - 1) i (omega arith) k)))
 
   pub left-same : (r c : ℕ) → ((s : ℕ) → c ≡ suc s → SameBlock n w l m r s) → leftOf n l w r c ≡ leftOf n m w r c
   unfolding leftOf
@@ -76,7 +76,7 @@ module _ (w : ℕ) (l m : List ℕ) (long : length l ≡ length m) (right other 
       ⊎-elim
       (λ k.
       rw (lt-ltb 0 (suc r) (omega arith), lt-ltb (c + 1) w k)
-      (part-same l m 4 ((16 * suc r - 1) * (16 * w) + (16 * c + 16)) long
+      (part-same 0 l m 4 ((16 * suc r - 1) * (16 * w) + (16 * c + 16)) long
       (λ i b.
       let e : (16 * suc r - 1) * (16 * w) + (16 * c + 16) + i ≡ (16 * suc r - 1) * (16 * w) + 16 * suc c + i = omega arith in
       rw (e ∙ last-row 16 w r (suc c) i (omega arith)) (h r refl k 15 i (omega arith) (omega arith)))))

@@ -6,6 +6,7 @@
 --     still-counted, alone-counted           that is part of the count that a call returns, and all of it where macroblock k is refused
 --     still-untouched, alone-untouched       they agree in luma in every finished macroblock that the change cannot reach
 --     still-untouched-chroma, alone-..       and in U and V in every finished macroblock above k's row or left of its column
+--     still-chroma-stays, alone-chroma-stays     and in U and V everywhere, where only luma coefficients of macroblock k differ
 -- Assumes nothing.
 use Prim.Native.Nat.{ℕ, _*_, _/_, _%_, _<_, _≤_}
 use mathlib.Core.Path.{_≡_, ap, _∙_}
@@ -21,11 +22,11 @@ use Rattle.still.specs.Answers.{aloneFits, stillAnswer, aloneAnswer, stillClipp
 use Rattle.still.proofs.Sizes.{size-says, fits}
 use Rattle.still_laws.specs.Words.{Plane, inY, Finished}
 use Rattle.still_laws.proofs.Answered.{accepted-lengths, still-answered, alone-answered}
-use Rattle.later_laws.specs.Calls.{Given, SameBut, SamePixels, DrawnTo, FitsStill, FitsAlone, stillOf, aloneOf, stillCount, aloneCount}
+use Rattle.later_laws.specs.Calls.{Given, SameBut, SameChromaAt, SamePixels, DrawnTo, FitsStill, FitsAlone, stillOf, aloneOf, stillCount, aloneCount}
 use Rattle.later_laws.proofs.Reached.{AnsweredOf}
 use Rattle.later_laws.proofs.Steady.{given-steady, read-steady}
 use Rattle.later_laws.proofs.Before.{Fitting, same-finished, same-count, counted-part, counted-all}
-use Rattle.later_laws.proofs.Cones.{luma, chroma, earlier}
+use Rattle.later_laws.proofs.Cones.{luma, chroma, chroma-stays, earlier}
 
 -- ---- `still`
 module _ (w h : ℕ) (right : List ℕ) (a : Given) where
@@ -74,6 +75,10 @@ module _ (w h : ℕ) (right : List ℕ) (k : ℕ) (a b : Given) (only : SameBut 
   pub still-untouched-chroma : (p : Plane) → (p ≡ inY → ⊥) → (j : ℕ) → Finished w h (r .0) j → Finished w h (s .0) j
       → UntouchedChroma (k / w) (k % w) (j / w) (j % w) → SamePixels p w j (r .0) (s .0)
   still-untouched-chroma = chroma w h (rightGiven right) (λ z. given-steady w h right) k a b only (r .0) (s .0) still-one still-two
+
+  pub still-chroma-stays : (p : Plane) → (p ≡ inY → ⊥) → SameChromaAt a b k → (j : ℕ) → Finished w h (r .0) j → Finished w h (s .0) j
+      → SamePixels p w j (r .0) (s .0)
+  still-chroma-stays = chroma-stays w h (rightGiven right) (λ z. given-steady w h right) k a b only (r .0) (s .0) still-one still-two
 
   module _ (fit : FitsStill w h right a) (fit2 : FitsStill w h right b) (inside : k ≤ w * h) where
     pub still-together : (j : ℕ) → j < k → Finished w h (r .0) j → Finished w h (s .0) j
@@ -135,6 +140,10 @@ module _ (w h : ℕ) (k : ℕ) (a b : Given) (only : SameBut k a b) (r s : Canva
   pub alone-untouched-chroma : (p : Plane) → (p ≡ inY → ⊥) → (j : ℕ) → Finished w h (r .0) j → Finished w h (s .0) j
       → UntouchedChroma (k / w) (k % w) (j / w) (j % w) → SamePixels p w j (r .0) (s .0)
   alone-untouched-chroma = chroma w h (rightRead w h) (read-steady w h) k a b only (r .0) (s .0) alone-one alone-two
+
+  pub alone-chroma-stays : (p : Plane) → (p ≡ inY → ⊥) → SameChromaAt a b k → (j : ℕ) → Finished w h (r .0) j → Finished w h (s .0) j
+      → SamePixels p w j (r .0) (s .0)
+  alone-chroma-stays = chroma-stays w h (rightRead w h) (read-steady w h) k a b only (r .0) (s .0) alone-one alone-two
 
   module _ (fit : FitsAlone w h a) (fit2 : FitsAlone w h b) (inside : k ≤ w * h) where
     pub alone-together : (j : ℕ) → j < k → Finished w h (r .0) j → Finished w h (s .0) j

@@ -2,6 +2,7 @@
 --     Edges     the edges of a macroblock in two planes that are the same where the edges stand
 pub mod Edges
 pub mod Made
+pub mod Chroma
 pub mod Reached
 pub mod Steady
 pub mod Refused

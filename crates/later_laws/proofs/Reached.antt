@@ -1,4 +1,4 @@
--- Two answers of a still call are the same, in one plane, at each macroblock of a closed set in which the calls are given the same, where both have finished it.
+-- Two answers of a still call are the same, in one plane, at each macroblock of a closed set for which the calls are given the same, where both have finished it.
 --     Steady           right-hand pixels that stand above right of the last column, read from the last macroblock of the row above or given
 --     reached          the macroblocks of a closed set
 -- Assumes nothing.
@@ -110,6 +110,16 @@ pub given-same : (a b : Given) (k : ℕ) (n : MbNeighbors) → SameAt a b k
     ≡ drawn (lumaByte (b .modes) k) (chromaByte (b .modes) k) (skipByte (b .modes) k) (subsAt (b .subs) k) true n (coeffsAt (b .coeffs) k)
 given-same a b k n s = rw (s .luma, s .chroma, s .skip, s .sub-blocks, s .coefficients)
 
+-- the walkers make the same of macroblock j in the plane p, over any neighbours
+abbrev pub SameMade : Plane → Given → Given → ℕ → Type 0
+SameMade p a b j =
+    (n : MbNeighbors)
+    → pixelsOf p (drawn (lumaByte (a .modes) j) (chromaByte (a .modes) j) (skipByte (a .modes) j) (subsAt (a .subs) j) true n (coeffsAt (a .coeffs) j))
+    ≡ pixelsOf p (drawn (lumaByte (b .modes) j) (chromaByte (b .modes) j) (skipByte (b .modes) j) (subsAt (b .subs) j) true n (coeffsAt (b .coeffs) j))
+
+pub given-made : (p : Plane) (a b : Given) (j : ℕ) → SameAt a b j → SameMade p a b j
+given-made p a b j s n = ap (λ (m : ReconstructedMb). pixelsOf p m) (given-same a b j n s)
+
 -- ---- two calls, one plane, a closed set P
 module _ (w h : ℕ) (right : ℕ → List ℕ → List ℕ) (steady : Within w h 0 0 → Steady w h right) (a b : Given) (d e : Canvas)
     (one : AnsweredOf w h right a d) (two : AnsweredOf w h right b e) where
@@ -198,23 +208,23 @@ module _ (w h : ℕ) (right : ℕ → List ℕ → List ℕ) (steady : Within w 
             (sym y) (rights y);
         }
 
-    pub same-made : SameAt a b k
+    same-made : SameMade p a b k
         → pixelsOf p (madeAt w h (a .modes) (a .subs) (a .coeffs) right k before) ≡ pixelsOf p (madeAt w h (b .modes) (b .subs) (b .coeffs) right k other)
     same-made s =
         ap (λ (m : ReconstructedMb). pixelsOf p m) (made-is w h right a one k f)
         ∙ drawn-pixels w (k / w) (k % w) before (right (k / w) (before .y)) other (right (k / w) (other .y)) p edges
         (lumaByte (a .modes) k) (chromaByte (a .modes) k) (skipByte (a .modes) k) (subsAt (a .subs) k) true (coeffsAt (a .coeffs) k)
-        ∙ ap (λ (m : ReconstructedMb). pixelsOf p m) (given-same a b k (around w (k / w) (k % w) other (right (k / w) (other .y))) s)
+        ∙ s (around w (k / w) (k % w) other (right (k / w) (other .y)))
         ∙ sym (ap (λ (m : ReconstructedMb). pixelsOf p m) (made-is w h right b two k g))
 
-    pub same-here : SameAt a b k → SamePixels p w k d e
+    same-here : SameMade p a b k → SamePixels p w k d e
     same-here s i x hi hx =
         finished-pixels w h (a .modes) (a .subs) (a .coeffs) (a .y) (a .u) (a .v) right one k f p i x hi hx
         ∙ ap (λ (l : List ℕ). getD l (side p * i + x) 0) (same-made s)
         ∙ sym (finished-pixels w h (b .modes) (b .subs) (b .coeffs) (b .y) (b .u) (b .v) right two k g p i x hi hx)
 
   -- ---- by raster order
-  module _ (p : Plane) (P : ℕ → ℕ → Type 0) (closed : ClosedIn p P) (same : (j : ℕ) → P (j / w) (j % w) → SameAt a b j) where
+  module _ (p : Plane) (P : ℕ → ℕ → Type 0) (closed : ClosedIn p P) (same : (j : ℕ) → P (j / w) (j % w) → SameMade p a b j) where
     so-far : (m k : ℕ) → k < m → Finished w h d k → Finished w h e k → P (k / w) (k % w) → SamePixels p w k d e
     so-far zero k l f g q = absurd (omega arith)
     so-far (suc m) k l f g q =

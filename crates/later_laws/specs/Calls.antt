@@ -4,9 +4,10 @@ use mathlib.Core.Path.{_≡_}
 use mathlib.Core.Bool.{true}
 use mathlib.Core.List.{List}
 use mathlib.Core.Logic.{_⊎_}
-use lib.IntN.{ℤ}
-use lib.ListN.{getD}
+use lib.IntN.{ℤ, pos}
+use lib.ListN.{length, getD}
 use Rattle.macroblock.specs.Reply.{done}
+use Rattle.walker_laws.specs.Chroma.{lumaOf16x16}
 use Rattle.still.specs.Picture.{Canvas, firstClipped, rightGiven, rightRead}
 use Rattle.still.specs.Answers.{sizeOk, stillFits, aloneFits, stillTold, aloneTold}
 use Rattle.still_laws.specs.Words.{Plane, inY, side, planeOf, pixelOf, lumaByte, chromaByte, skipByte, subsAt, coeffsAt}
@@ -31,6 +32,15 @@ pub record SameAt (a b : Given) (j : ℕ) : Type 0 where
 -- every macroblock but k is; the planes may be found equal or not
 abbrev pub SameBut : ℕ → Given → Given → Type 0
 SameBut k a b = (j : ℕ) → (j ≡ k → ⊥) → SameAt a b j
+
+-- macroblock j is given the same but for its luma coefficients, the first 272 of its 400: Y2 and Y
+pub record SameChromaAt (a b : Given) (j : ℕ) : Type 0 where
+  pub luma : lumaByte (a .modes) j ≡ lumaByte (b .modes) j
+  pub chroma : chromaByte (a .modes) j ≡ chromaByte (b .modes) j
+  pub skip : skipByte (a .modes) j ≡ skipByte (b .modes) j
+  pub sub-blocks : subsAt (a .subs) j ≡ subsAt (b .subs) j
+  pub long : length (coeffsAt (a .coeffs) j) ≡ length (coeffsAt (b .coeffs) j)
+  pub coefficients : (i : ℕ) → lumaOf16x16 ≤ i → getD (coeffsAt (a .coeffs) j) i (pos 0) ≡ getD (coeffsAt (b .coeffs) j) i (pos 0)
 
 -- ---- what the two calls answer: the planes, the reply and the index, beside the count
 abbrev pub stillOf : ℕ → ℕ → List ℕ → Given → Canvas × ℕ

@@ -5,4 +5,3 @@ pub mod Shown
 pub mod Rule
 pub mod Agree
 pub mod Later
-pub mod Moved

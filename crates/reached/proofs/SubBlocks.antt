@@ -63,7 +63,7 @@ unfolding wrap narrow clampTo table rows turns absent pass column passes bySin b
 moved = refl
 
 -- ---- the two calls
-differ-at : (n : ℕ) (x y : ℤ) (rest : List ℤ) (j : ℕ) → (j ≡ n → ⊥)
+pub differ-at : (n : ℕ) (x y : ℤ) (rest : List ℤ) (j : ℕ) → (j ≡ n → ⊥)
     → getD (replicate n (pos 0) ++ (x ∷ rest)) j (pos 0) ≡ getD (replicate n (pos 0) ++ (y ∷ rest)) j (pos 0)
 differ-at zero x y rest zero h = absurd (h refl)
 differ-at zero x y rest (suc j) h = refl

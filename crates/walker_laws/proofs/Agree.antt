@@ -22,7 +22,7 @@ use Rattle.rfc6386.specs.Dct.{residue}
 use Rattle.rfc6386.specs.Residue.{sum}
 use Rattle.rfc6386.specs.Walk.{blockAt, subPixels}
 use Rattle.rfc6386.proofs.DctBlocks.{residue-ext}
-use Rattle.walker_laws.specs.Around.{around, aboveSub, leftSub, cornerSub, predictSub, placeIn, subOf, Ruled}
+use Rattle.walker_laws.specs.Around.{around, rowAbove, columnLeft, column, row, aboveSub, leftSub, cornerSub, predictSub, placeIn, subOf, Ruled}
 use Rattle.walker_laws.specs.Moves.{Closed}
 use Rattle.walker_laws.proofs.Border.{below}
 
@@ -82,9 +82,13 @@ module _ (n : MbNeighbors) (y z : List ℕ) (P : ℕ → ℕ → Type 0) (closed
   in-both : (r c : ℕ) → a ≡ suc r → b ≡ suc c → P (suc r) (suc c)
   in-both r c e f = subst (λ (x : ℕ). P (suc r) x) f (in-row r e)
 
-  above-agree : (i : ℕ) → i < 8 → around n y (4 * a) (4 * b + 1 + i) ≡ around n z (4 * a) (4 * b + 1 + i)
+  -- its raster index
+  abbrev k : ℕ
+  k = 4 * a + b
+
+  above-agree : (i : ℕ) → i < 8 → around n y (rowAbove k) (column k i) ≡ around n z (rowAbove k) (column k i)
   above-agree i l =
-      around-agree n y z (4 * a) (4 * b + 1 + i)
+      around-agree n y z (rowAbove k) (column k i)
       (λ p q e f h.
       let u : a ≡ suc (p / 4) = omega arith in
       ⊎-elim
@@ -92,32 +96,25 @@ module _ (n : MbNeighbors) (y z : List ℕ) (P : ℕ → ℕ → Type 0) (closed
       (λ s. let v : q / 4 ≡ suc b = omega arith in rw v (earlier (p / 4) (suc b) (omega arith) (omega arith) (closed .above-right (p / 4) b (in-row (p / 4) u))))
       (below i 4))
 
-  left-agree : (i : ℕ) → i < 4 → around n y (4 * a + 1 + i) (4 * b) ≡ around n z (4 * a + 1 + i) (4 * b)
+  left-agree : (i : ℕ) → i < 4 → around n y (row k i) (columnLeft k) ≡ around n z (row k i) (columnLeft k)
   left-agree i l =
-      around-agree n y z (4 * a + 1 + i) (4 * b)
+      around-agree n y z (row k i) (columnLeft k)
       (λ p q e f h.
       let u : p / 4 ≡ a = omega arith in
       let v : b ≡ suc (q / 4) = omega arith in
       rw u (earlier a (q / 4) (omega arith) (omega arith) (closed .left a (q / 4) (in-column (q / 4) v))))
 
-  corner-agree : around n y (4 * a) (4 * b) ≡ around n z (4 * a) (4 * b)
+  corner-agree : around n y (rowAbove k) (columnLeft k) ≡ around n z (rowAbove k) (columnLeft k)
   corner-agree =
-      around-agree n y z (4 * a) (4 * b)
+      around-agree n y z (rowAbove k) (columnLeft k)
       (λ p q e f h.
       let u : a ≡ suc (p / 4) = omega arith in
       let v : b ≡ suc (q / 4) = omega arith in
       earlier (p / 4) (q / 4) (omega arith) (omega arith) (closed .above-left (p / 4) (q / 4) (in-both (p / 4) (q / 4) u v)))
 
-  row-is : (4 * a + b) / 4 ≡ a
-  row-is = omega arith
-
-  column-is : (4 * a + b) % 4 ≡ b
-  column-is = omega arith
-
-  pub predict-agree : (modes : List IntraBmode) → predictSub modes n y (4 * a + b) ≡ predictSub modes n z (4 * a + b)
+  pub predict-agree : (modes : List IntraBmode) → predictSub modes n y k ≡ predictSub modes n z k
   unfolding predictSub aboveSub leftSub cornerSub
-  predict-agree modes =
-      rw (row-is, column-is, table-ext 8 _ _ above-agree, table-ext 4 _ _ left-agree, corner-agree)
+  predict-agree modes = rw (table-ext 8 _ _ above-agree, table-ext 4 _ _ left-agree, corner-agree)
 
 -- ---- two macroblocks that meet the rule
 module _ (modes : List IntraBmode) (skip : Bool) (n : MbNeighbors) (c d : List ℤ) (y z : List ℕ) (one : Ruled modes skip n c y) (two : Ruled modes skip n d z)

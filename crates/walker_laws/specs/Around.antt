@@ -33,14 +33,27 @@ around n y (suc r) zero = pixelOr 129 (getD (n .«y_left») r 0) (n .«y_left_th
 around n y (suc r) (suc c) = pick (ltb c 16) (getD y (16 * r + c) 0) (aboveRight n (c - 16))
 
 -- ---- what sub-block k reads: A0 .. A7 above and above-right of it, L0 .. L3 to its left, P above left
+-- the row above it, the column to its left, the columns from its first on, and the rows from its first on
+abbrev pub rowAbove : ℕ → ℕ
+rowAbove k = 4 * (k / 4)
+
+abbrev pub columnLeft : ℕ → ℕ
+columnLeft k = 4 * (k % 4)
+
+abbrev pub column : ℕ → ℕ → ℕ
+column k i = 4 * (k % 4) + 1 + i
+
+abbrev pub row : ℕ → ℕ → ℕ
+row k i = 4 * (k / 4) + 1 + i
+
 unfoldable pub aboveSub : MbNeighbors → List ℕ → ℕ → List ℕ
-aboveSub n y k = table 8 (λ i. around n y (4 * (k / 4)) (4 * (k % 4) + 1 + i))
+aboveSub n y k = table 8 (λ i. around n y (rowAbove k) (column k i))
 
 unfoldable pub leftSub : MbNeighbors → List ℕ → ℕ → List ℕ
-leftSub n y k = table 4 (λ i. around n y (4 * (k / 4) + 1 + i) (4 * (k % 4)))
+leftSub n y k = table 4 (λ i. around n y (row k i) (columnLeft k))
 
 unfoldable pub cornerSub : MbNeighbors → List ℕ → ℕ → ℕ
-cornerSub n y k = around n y (4 * (k / 4)) (4 * (k % 4))
+cornerSub n y k = around n y (rowAbove k) (columnLeft k)
 
 unfoldable pub predictSub : List IntraBmode → MbNeighbors → List ℕ → ℕ → List ℕ
 predictSub modes n y k = predictB (getD modes k Dc) (aboveSub n y k) (leftSub n y k) (cornerSub n y k)

@@ -9,8 +9,9 @@
 //! the Rust its enums, its record of `Option`s and its arrays of blocks. Both write 384 bytes a macroblock;
 //! the library also counts the clipped sums.
 
+use judge::blocks::Blocks;
 use judge::data;
-use judge::expected::{self, Blocks};
+use judge::expected;
 use judge::random::Random;
 use std::hint::black_box;
 use std::process::ExitCode;
@@ -228,6 +229,7 @@ fn equal(rust: &[ReconstructedMb], library: &[[u8; 384]]) -> bool {
 
 fn bench(turns: usize) -> Result<(), String> {
     println!("{COUNT} macroblocks of a kind, medians of {turns} turns, processor time");
+    println!("a ratio is the Rust's time divided by the library's: above 1 the library is faster");
     for kind in KINDS {
         let given = macroblocks(kind).ok_or("an unknown kind")?;
         let taken: Vec<Taken> = given.iter().map(Taken::of).collect();

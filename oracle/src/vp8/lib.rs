@@ -1,5 +1,5 @@
 //! The Rust that the library is compared with, as a crate: five of its files, unchanged, with the feature `simd` off.
-//! `oracle/parts.sh` puts copies of them into `target/rust-src`, so that nothing here can reach the folder they are from.
+//! `tools/parts.sh` puts copies of them into `target/rust-src`, so that nothing here can reach the folder they are from.
 //!
 //! The modules `bool_decoder`, `coded_header`, `dct_tokens` and `frame` are stand-ins. `macroblock.rs` and `dequant.rs`
 //! name the first three in the functions that read from a bit stream or a header, which nothing here calls; the three mode

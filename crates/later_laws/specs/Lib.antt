@@ -1,0 +1,2 @@
+-- The words of the theorems on what may move in a still.
+pub mod Calls

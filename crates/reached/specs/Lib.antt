@@ -1,0 +1,1 @@
+-- The examples need no words of their own.

@@ -1,0 +1,4 @@
+-- The rule of luma mode B, and what may move.
+pub mod Around
+pub mod Chroma
+pub mod Moves

@@ -17,7 +17,7 @@ use lib.Seq.{ext-getD}
 use Rattle.lists.specs.Lists.{table}
 use Rattle.lists.proofs.Table.{table-at, table-ext}
 use Rattle.macroblock.specs.declared.modes.IntraBmode.{IntraBmode}
-use Rattle.macroblock.specs.declared.neighbors.MbNeighbors.{MbNeighbors}
+use Rattle.macroblock.specs.declared.neighbors.LumaEdges.{LumaEdges}
 use Rattle.rfc6386.specs.Dct.{residue}
 use Rattle.rfc6386.specs.Residue.{sum}
 use Rattle.rfc6386.specs.Walk.{blockAt, subPixels}
@@ -49,7 +49,7 @@ pixel-in y a b x z hb hx hz =
 by-quarter : (k : ℕ) → 4 * (k / 4) + k % 4 ≡ k
 by-quarter k = omega arith
 
-module _ (n : MbNeighbors) (y z : List ℕ) where
+module _ (n : LumaEdges) (y z : List ℕ) where
   -- the sub-block in row a and column b is the same in both
   abbrev pub Same : ℕ → ℕ → Type 0
   Same a b = subOf y (4 * a + b) ≡ subOf z (4 * a + b)
@@ -63,14 +63,13 @@ module _ (n : MbNeighbors) (y z : List ℕ) where
   -- at row r and column c of the macroblock with its border
   pub around-agree : (r c : ℕ) → ((i j : ℕ) → r ≡ suc i → c ≡ suc j → j < 16 → Same (i / 4) (j / 4)) → around n y r c ≡ around n z r c
   unfolding around
-  around-agree zero zero s = refl
-  around-agree zero (suc c) s = refl
+  around-agree zero c s = refl
   around-agree (suc r) zero s = refl
   around-agree (suc r) (suc c) s =
       ⊎-elim (λ l. rw (lt-ltb c 16 l) (pixel-same r c l (s r c refl refl l))) (λ l. rw (le-ltb c 16 l)) (below c 16)
 
 -- ---- a closed set P of sub-blocks, and the sub-block in its row a and column b; those of P before it are the same
-module _ (n : MbNeighbors) (y z : List ℕ) (P : ℕ → ℕ → Type 0) (closed : Closed P) (a b : ℕ) (hb : b < 4) (here : P a b)
+module _ (n : LumaEdges) (y z : List ℕ) (P : ℕ → ℕ → Type 0) (closed : Closed P) (a b : ℕ) (hb : b < 4) (here : P a b)
     (earlier : (r c : ℕ) → c < 4 → 4 * r + c < 4 * a + b → P r c → Same n y z r c) where
   -- the place itself, by the row above it and by the column to its left
   in-row : (r : ℕ) → a ≡ suc r → P (suc r) b
@@ -117,7 +116,7 @@ module _ (n : MbNeighbors) (y z : List ℕ) (P : ℕ → ℕ → Type 0) (closed
   predict-agree modes = rw (table-ext 8 _ _ above-agree, table-ext 4 _ _ left-agree, corner-agree)
 
 -- ---- two macroblocks that meet the rule
-module _ (modes : List IntraBmode) (skip : Bool) (n : MbNeighbors) (c d : List ℤ) (y z : List ℕ) (one : Ruled modes skip n c y) (two : Ruled modes skip n d z)
+module _ (modes : List IntraBmode) (skip : Bool) (n : LumaEdges) (c d : List ℤ) (y z : List ℕ) (one : Ruled modes skip n c y) (two : Ruled modes skip n d z)
     (P : ℕ → ℕ → Type 0) (closed : Closed P)
     (given : (a b : ℕ) → b < 4 → P a b → (i : ℕ) → i < 16 → blockAt c 0 (4 * a + b) i ≡ blockAt d 0 (4 * a + b) i) where
   so-far : (m a b : ℕ) → a < 4 → b < 4 → 4 * a + b < m → P a b → Same n y z a b
@@ -139,7 +138,7 @@ everywhere = record { left = λ r c p. p; above-left = λ r c p. p; above = λ r
 by-sixteen : (i : ℕ) → 16 * (i / 16) + i % 16 ≡ i
 by-sixteen i = omega arith
 
-pub ruled-once : (modes : List IntraBmode) (skip : Bool) (n : MbNeighbors) (c : List ℤ) (y z : List ℕ) → length y ≡ 256 → length z ≡ 256
+pub ruled-once : (modes : List IntraBmode) (skip : Bool) (n : LumaEdges) (c : List ℤ) (y z : List ℕ) → length y ≡ 256 → length z ≡ 256
     → Ruled modes skip n c y → Ruled modes skip n c z → y ≡ z
 ruled-once modes skip n c y z k l one two =
     ext-getD 0 y z (k ∙ sym l)

@@ -7,15 +7,16 @@ use mathlib.Core.Bool.{Bool, true, false}
 use mathlib.Core.List.{List}
 use mathlib.Core.Logic.{_⊎_, inl, inr, ⊎-elim}
 use native.Mathlib.Omega.{arith}
-use borrow.Author.Tests.{lt-ltb, le-ltb, ltb-true, ltb-false}
+use borrow.Author.Tests.{le-ltb, ltb-true, ltb-false}
 use lib.Dec.{ltb}
-use lib.ListN.{length, getD, set, replicate, length-set, getD-replicate}
-use Rattle.lists.specs.Lists.{pick}
+use lib.ListN.{length, getD, replicate, getD-replicate}
+use Rattle.lists.specs.Lists.{pick, part}
+use Rattle.lists.proofs.Table.{table-at}
 use Rattle.lists.proofs.Updates.{updates-length, updates-outside, updates-inside}
-use Rattle.macroblock.specs.declared.neighbors.MbNeighbors.{MbNeighbors}
-use Rattle.rfc6386.specs.Edges.{edgeOr, pixelOr, aboveOr, leftOr}
-use Rattle.rfc6386.specs.Walk.{laid, blank, copiedDown, bordered, startOf}
-use Rattle.walker_laws.specs.Around.{aboveRight, around}
+use Rattle.macroblock.specs.declared.neighbors.LumaEdges.{LumaEdges}
+use Rattle.rfc6386.specs.Edges.{edgeOr, pixelOr, leftOr}
+use Rattle.rfc6386.specs.Walk.{laid, blank, copiedDown, bordered, rowOr, startOf}
+use Rattle.walker_laws.specs.Around.{inRow, around}
 
 -- ---- numbers, compared
 pub below : (a b : ℕ) → (a < b) ⊎ (b ≤ a)
@@ -45,15 +46,11 @@ unfolding edgeOr pixelOr
 edge-at n v pixels true i l = refl
 edge-at n v pixels false i l = getD-replicate n i v 0 l
 
-above-at : (n : ℕ) (pixels : List ℕ) (there : Bool) (i : ℕ) → i < n → getD (aboveOr n pixels there) i 0 ≡ pixelOr 127 (getD pixels i 0) there
-unfolding aboveOr
-above-at n pixels there i l = edge-at n 127 pixels there i l
-
 left-at : (n : ℕ) (pixels : List ℕ) (there : Bool) (i : ℕ) → i < n → getD (leftOr n pixels there) i 0 ≡ pixelOr 129 (getD pixels i 0) there
 unfolding leftOr
 left-at n pixels there i l = edge-at n 129 pixels there i l
 
--- ---- the buffer: a pixel and four edges, laid one after another
+-- ---- the buffer: a row and a column, and the row's last four once more in three rows
 -- in a row
 along : (n at : ℕ) (s b : List ℕ) (k : ℕ) → k < n → at + k < length b → getD (laid n at 1 s b) (at + k) 0 ≡ getD s k 0
 along n at s b k l h =
@@ -62,161 +59,123 @@ along n at s b k l h =
 aside : (n at : ℕ) (s b : List ℕ) (j : ℕ) → (j < at) ⊎ (at + n ≤ j) → getD (laid n at 1 s b) j 0 ≡ getD b j 0
 aside n at s b j h = laid-outside n at 1 s b j (λ i l e. ⊎-elim (λ z. omega arith) (λ z. omega arith) h)
 
-module _ (p : ℕ) (above left right : List ℕ) where
-  -- the pixel; with the row above; with the four above right; with the left column
+blank-length : length (replicate {A = ℕ} 357 0) ≡ 357
+blank-length = refl
+
+module _ (row left : List ℕ) where
+  -- the row; with the left column
   unfoldable one : List ℕ
-  one = set blank 0 p
+  one = laid 21 0 1 row blank
 
   unfoldable two : List ℕ
-  two = laid 16 1 1 above one
+  two = laid 16 21 21 left one
 
-  unfoldable three : List ℕ
-  three = laid 4 17 1 right two
-
-  unfoldable four : List ℕ
-  four = laid 16 21 21 left three
+  abbrev right : List ℕ
+  right = part 4 row 17
 
   one-length : length one ≡ 357
   unfolding one blank
-  one-length = length-set (replicate 357 0) 0 p
+  one-length = laid-length 21 0 1 row (replicate 357 0) ∙ blank-length
 
   two-length : length two ≡ 357
   unfolding two
-  two-length = laid-length 16 1 1 above one ∙ one-length
+  two-length = laid-length 16 21 21 left one ∙ one-length
 
-  three-length : length three ≡ 357
-  unfolding three
-  three-length = laid-length 4 17 1 right two ∙ two-length
-
-  four-length : length four ≡ 357
-  unfolding four
-  four-length = laid-length 16 21 21 left three ∙ three-length
-
-  -- the four above right once more, in rows 4, 8 and 12
+  -- the last four once more, in rows 4, 8 and 12
   abbrev all : List ℕ
-  all = bordered p above left right
+  all = bordered row left
 
-  all-is : all ≡ laid 4 269 1 right (laid 4 185 1 right (laid 4 101 1 right four))
-  unfolding bordered copiedDown four three two one
+  all-is : all ≡ laid 4 269 1 right (laid 4 185 1 right (laid 4 101 1 right two))
+  unfolding bordered copiedDown two one
   all-is = refl
 
   -- what is none of these twelve
-  past-copies : (j : ℕ) → (j < 101) ⊎ (j % 21 < 17) → getD all j 0 ≡ getD four j 0
+  past-copies : (j : ℕ) → (j < 101) ⊎ (j % 21 < 17) → getD all j 0 ≡ getD two j 0
   past-copies j h =
-      let s : List ℕ = laid 4 101 1 right four in
+      let s : List ℕ = laid 4 101 1 right two in
       let t : List ℕ = laid 4 185 1 right s in
       rw (
         all-is,
         laid-outside 4 269 1 right t j (λ i l e. ⊎-elim (λ z. omega arith) (λ z. omega arith) h),
         laid-outside 4 185 1 right s j (λ i l e. ⊎-elim (λ z. omega arith) (λ z. omega arith) h),
-        laid-outside 4 101 1 right four j (λ i l e. ⊎-elim (λ z. omega arith) (λ z. omega arith) h),
+        laid-outside 4 101 1 right two j (λ i l e. ⊎-elim (λ z. omega arith) (λ z. omega arith) h),
       )
-
-  past-left : (j : ℕ) → j < 21 → getD four j 0 ≡ getD three j 0
-  unfolding four
-  past-left j h = laid-outside 16 21 21 left three j (λ i l e. omega arith)
 
   -- ---- where each stands
-  corner-at : getD all 0 0 ≡ p
-  unfolding three two one blank
-  corner-at =
-      past-copies 0 (inl (omega arith)) ∙ past-left 0 (omega arith) ∙ aside 4 17 right two 0 (inl (omega arith)) ∙ aside 16 1 above one 0 (inl (omega arith))
-
-  row-at : (c : ℕ) → c < 16 → getD all (1 + c) 0 ≡ getD above c 0
-  unfolding three two
+  row-at : (c : ℕ) → c < 21 → getD all c 0 ≡ getD row c 0
+  unfolding two one blank
   row-at c h =
-      past-copies (1 + c) (inl (omega arith)) ∙ past-left (1 + c) (omega arith) ∙ aside 4 17 right two (1 + c) (inl (omega arith))
-      ∙ along 16 1 above one c h (rw one-length (omega arith))
-
-  right-at : (i : ℕ) → i < 4 → getD all (17 + i) 0 ≡ getD right i 0
-  unfolding three
-  right-at i h =
-      past-copies (17 + i) (inl (omega arith)) ∙ past-left (17 + i) (omega arith) ∙ along 4 17 right two i h (rw two-length (omega arith))
+      let z : c ≡ 0 + c = omega arith in
+      past-copies c (inl (omega arith)) ∙ laid-outside 16 21 21 left one c (λ i l e. omega arith)
+      ∙ ap (λ (q : ℕ). getD (laid 21 0 1 row (replicate 357 0)) q 0) z ∙ along 21 0 row (replicate 357 0) c h (rw blank-length (omega arith))
 
   column-at : (r : ℕ) → r < 16 → getD all (21 + r * 21) 0 ≡ getD left r 0
-  unfolding four
+  unfolding two
   column-at r h =
       past-copies (21 + r * 21) (inr (omega arith))
-      ∙ laid-inside 16 21 21 left three r (λ i j _ _ e. omega arith) h (rw three-length (omega arith))
+      ∙ laid-inside 16 21 21 left one r (λ i j _ _ e. omega arith) h (rw one-length (omega arith))
 
   -- the copies in rows 4, 8 and 12
-  copy-length : length (laid 4 101 1 right four) ≡ 357
-  copy-length = laid-length 4 101 1 right four ∙ four-length
+  copy-length : length (laid 4 101 1 right two) ≡ 357
+  copy-length = laid-length 4 101 1 right two ∙ two-length
 
-  copies-length : length (laid 4 185 1 right (laid 4 101 1 right four)) ≡ 357
-  copies-length = laid-length 4 185 1 right (laid 4 101 1 right four) ∙ copy-length
+  copies-length : length (laid 4 185 1 right (laid 4 101 1 right two)) ≡ 357
+  copies-length = laid-length 4 185 1 right (laid 4 101 1 right two) ∙ copy-length
 
-  copy-at : (r i : ℕ) → r < 3 → i < 4 → getD all (101 + 84 * r + i) 0 ≡ getD right i 0
-  copy-at zero i l h =
+  copied-at : (r i : ℕ) → r < 3 → i < 4 → getD all (101 + 84 * r + i) 0 ≡ getD right i 0
+  copied-at zero i l h =
       rw (
         all-is,
-        aside 4 269 right (laid 4 185 1 right (laid 4 101 1 right four)) (101 + i) (inl (omega arith)),
-        aside 4 185 right (laid 4 101 1 right four) (101 + i) (inl (omega arith)),
-        along 4 101 right four i h (rw four-length (omega arith)),
+        aside 4 269 right (laid 4 185 1 right (laid 4 101 1 right two)) (101 + i) (inl (omega arith)),
+        aside 4 185 right (laid 4 101 1 right two) (101 + i) (inl (omega arith)),
+        along 4 101 right two i h (rw two-length (omega arith)),
       )
-  copy-at (suc zero) i l h =
+  copied-at (suc zero) i l h =
       rw (
         all-is,
-        aside 4 269 right (laid 4 185 1 right (laid 4 101 1 right four)) (185 + i) (inl (omega arith)),
-        along 4 185 right (laid 4 101 1 right four) i h (rw copy-length (omega arith)),
+        aside 4 269 right (laid 4 185 1 right (laid 4 101 1 right two)) (185 + i) (inl (omega arith)),
+        along 4 185 right (laid 4 101 1 right two) i h (rw copy-length (omega arith)),
       )
-  copy-at (suc (suc zero)) i l h =
-      rw (all-is, along 4 269 right (laid 4 185 1 right (laid 4 101 1 right four)) i h (rw copies-length (omega arith)))
-  copy-at (suc (suc (suc r))) i l h = absurd (omega arith)
+  copied-at (suc (suc zero)) i l h =
+      rw (all-is, along 4 269 right (laid 4 185 1 right (laid 4 101 1 right two)) i h (rw copies-length (omega arith)))
+  copied-at (suc (suc (suc r))) i l h = absurd (omega arith)
+
+  copy-at : (r i : ℕ) → r < 3 → i < 4 → getD all (101 + 84 * r + i) 0 ≡ getD row (17 + i) 0
+  unfolding part
+  copy-at r i l h = copied-at r i l h ∙ table-at 4 (λ j. getD row (17 + j) 0) i 0 h
 
 -- ---- a pixel of the border: in row 0, in column 0, or right of the macroblock in a row that a sub-block reads
 abbrev pub Border : ℕ → ℕ → Type 0
 Border r c = (r ≡ 0) ⊎ ((c ≡ 0) ⊎ ((17 ≤ c) × (r % 4 ≡ 0) × (r < 16)))
 
 -- ---- the borders of a macroblock, at row r and column c of 17 rows of 21; y is the macroblock, of which nothing is read here
-module _ (n : MbNeighbors) (y : List ℕ) where
-  abbrev p : ℕ
-  p = pixelOr 127 (n .«y_topleft») (n .«y_topleft_there»)
-
-  abbrev a : List ℕ
-  a = aboveOr 16 (n .«y_above») (n .«y_above_there»)
-
+module _ (e : LumaEdges) (y : List ℕ) where
   abbrev l : List ℕ
-  l = leftOr 16 (n .«y_left») (n .«y_left_there»)
+  l = leftOr 16 (e .left) (e .«left_there»)
 
-  abbrev s : List ℕ
-  s = aboveOr 4 (n .«y_above_right») (n .«y_above_right_there»)
+  row-is : (c : ℕ) → c < 21 → getD (rowOr e) c 0 ≡ inRow e c
+  unfolding rowOr
+  row-is c h = table-at 21 (λ i. inRow e i) c 0 h
 
-  start-corner : getD (startOf n) 0 0 ≡ around n y 0 0
+  start-row : (c : ℕ) → c < 21 → getD (startOf e) c 0 ≡ around e y 0 c
   unfolding startOf around
-  start-corner = corner-at p a l s
+  start-row c h = row-at (rowOr e) l c h ∙ row-is c h
 
-  start-above : (c : ℕ) → c < 16 → getD (startOf n) (suc c) 0 ≡ around n y 0 (suc c)
-  unfolding startOf around
-  start-above c h =
-      rw (lt-ltb c 16 h)
-      (ap (λ (q : ℕ). getD (startOf n) q 0) (omega arith) ∙ row-at p a l s c h ∙ above-at 16 (n .«y_above») (n .«y_above_there») c h)
-
-  start-right : (c : ℕ) → 16 ≤ c → c < 20 → getD (startOf n) (suc c) 0 ≡ around n y 0 (suc c)
-  unfolding startOf around
-  start-right c g h =
-      rw (le-ltb c 16 g)
-      (ap (λ (q : ℕ). getD (startOf n) q 0) (omega arith) ∙ right-at p a l s (c - 16) (omega arith)
-      ∙ above-at 4 (n .«y_above_right») (n .«y_above_right_there») (c - 16) (omega arith))
-
-  start-left : (r : ℕ) → r < 16 → getD (startOf n) (21 * suc r) 0 ≡ around n y (suc r) 0
+  start-left : (r : ℕ) → r < 16 → getD (startOf e) (21 * suc r) 0 ≡ around e y (suc r) 0
   unfolding startOf around
   start-left r h =
-      ap (λ (q : ℕ). getD (startOf n) q 0) (omega arith) ∙ column-at p a l s r h ∙ left-at 16 (n .«y_left») (n .«y_left_there») r h
+      ap (λ (q : ℕ). getD (startOf e) q 0) (omega arith) ∙ column-at (rowOr e) l r h ∙ left-at 16 (e .left) (e .«left_there») r h
 
-  start-copy : (r c : ℕ) → suc r % 4 ≡ 0 → r < 15 → 16 ≤ c → c < 20 → getD (startOf n) (21 * suc r + suc c) 0 ≡ around n y (suc r) (suc c)
+  start-copy : (r c : ℕ) → suc r % 4 ≡ 0 → r < 15 → 16 ≤ c → c < 20 → getD (startOf e) (21 * suc r + suc c) 0 ≡ around e y (suc r) (suc c)
   unfolding startOf around
-  start-copy r c d e g h =
+  start-copy r c d f g h =
       rw (le-ltb c 16 g)
-      (ap (λ (q : ℕ). getD (startOf n) q 0) (omega arith) ∙ copy-at p a l s (r / 4) (c - 16) (omega arith) (omega arith)
-      ∙ above-at 4 (n .«y_above_right») (n .«y_above_right_there») (c - 16) (omega arith))
+      (ap (λ (q : ℕ). getD (startOf e) q 0) (omega arith) ∙ copy-at (rowOr e) l (r / 4) (c - 16) (omega arith) (omega arith)
+      ∙ ap (λ (q : ℕ). getD (rowOr e) q 0) (omega arith) ∙ row-is (suc c) (omega arith))
 
-  pub start-border : (r c : ℕ) → r ≤ 16 → c ≤ 20 → Border r c → getD (startOf n) (21 * r + c) 0 ≡ around n y r c
-  start-border zero zero h g b = start-corner
-  start-border zero (suc c) h g b =
-      ap (λ (q : ℕ). getD (startOf n) q 0) (omega arith)
-      ∙ ⊎-elim (λ z. start-above c z) (λ z. start-right c z (omega arith)) (below c 16)
-  start-border (suc r) zero h g b = ap (λ (q : ℕ). getD (startOf n) q 0) (omega arith) ∙ start-left r (omega arith)
+  pub start-border : (r c : ℕ) → r ≤ 16 → c ≤ 20 → Border r c → getD (startOf e) (21 * r + c) 0 ≡ around e y r c
+  start-border zero c h g b = ap (λ (q : ℕ). getD (startOf e) q 0) (omega arith) ∙ start-row c (omega arith)
+  start-border (suc r) zero h g b = ap (λ (q : ℕ). getD (startOf e) q 0) (omega arith) ∙ start-left r (omega arith)
   start-border (suc r) (suc c) h g (inl b) = absurd (omega arith)
   start-border (suc r) (suc c) h g (inr (inl b)) = absurd (omega arith)
   start-border (suc r) (suc c) h g (inr (inr b)) = start-copy r c (b .1) (omega arith) (omega arith) (omega arith)

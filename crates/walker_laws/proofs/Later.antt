@@ -21,7 +21,7 @@ use Rattle.macroblock.specs.declared.modes.IntraUvMode.{IntraUvMode}
 use Rattle.macroblock.specs.declared.modes.MbModes.{MbModes}
 use Rattle.macroblock.specs.declared.neighbors.MbNeighbors.{MbNeighbors}
 use Rattle.rfc6386.specs.Residue.{sum}
-use Rattle.rfc6386.specs.Walk.{seeded, addedBlocks, plane, yPrediction, uPrediction, vPrediction, yWhole}
+use Rattle.rfc6386.specs.Walk.{seeded, addedBlocks, plane, yPrediction, uvPrediction, yWhole}
 use Rattle.rfc6386.proofs.DctBlocks.{residue-ext}
 use Rattle.rfc6386.proofs.Planes.{added-at, plane-ext, iwht-ext}
 use Rattle.reconstruct.specs.Answers.{wholeOf, nonB, walkB}
@@ -58,11 +58,11 @@ module _ (luma : ℕ) (mode : IntraUvMode) (skip : Bool) (n : MbNeighbors) (c d 
     (same : (j : ℕ) → luma ≤ j → getD c j (pos 0) ≡ getD d j (pos 0)) where
   pub u-agree : chromaU luma mode skip n c ≡ chromaU luma mode skip n d
   unfolding chromaU
-  u-agree = plane-ext 8 skip (uPrediction mode n) (uBlock luma c) (uBlock luma d) (λ r s k _ _ _. same _ (omega arith))
+  u-agree = plane-ext 8 skip (uvPrediction mode (n .u)) (uBlock luma c) (uBlock luma d) (λ r s k _ _ _. same _ (omega arith))
 
   pub v-agree : chromaV luma mode skip n c ≡ chromaV luma mode skip n d
   unfolding chromaV
-  v-agree = plane-ext 8 skip (vPrediction mode n) (vBlock luma c) (vBlock luma d) (λ r s k _ _ _. same _ (omega arith))
+  v-agree = plane-ext 8 skip (uvPrediction mode (n .v)) (vBlock luma c) (vBlock luma d) (λ r s k _ _ _. same _ (omega arith))
 
 -- ---- luma mode B
 -- a sub-block that the change at k cannot reach is not k
@@ -85,7 +85,7 @@ module _ (subs : List IntraBmode) (there : Bool) (m : MbModes) (n : MbNeighbors)
   -- the sub-block in row i and column j
   pub walkB-untouched : (i j : ℕ) → i < 4 → j < 4 → Untouched (k / 4) (k % 4) i j → subOf (r .y) (4 * i + j) ≡ subOf (s .y) (4 * i + j)
   walkB-untouched i j hi hj u =
-      ruled-agree subs (m .skip) n c d (r .y) (s .y) (walkB-ruled subs there m n c r promise accepted) (walkB-ruled subs there m n d s promise2 accepted2)
+      ruled-agree subs (m .skip) (n .y) c d (r .y) (s .y) (walkB-ruled subs there m n c r promise accepted) (walkB-ruled subs there m n d s promise2 accepted2)
       (Untouched (k / 4) (k % 4)) (untouched-closed (k / 4) (k % 4))
       (λ a b h p x l. only _ (λ e. not-k k a b h (sym (block-of (4 * a + b) x l) ∙ e) p)) i j hi hj u
 
@@ -101,7 +101,7 @@ module _ (subs : List IntraBmode) (there : Bool) (m : MbModes) (n : MbNeighbors)
 
 -- ---- the 16x16 modes
 nonB-luma : (m : MbModes) (n : MbNeighbors) (c : List ℤ) (r : ReconstructedMb) → r ≡ nonB m n c → r .reply ≡ done
-    → r .y ≡ plane 16 (m .skip) (yPrediction (m .y) n) (seeded c)
+    → r .y ≡ plane 16 (m .skip) (yPrediction (m .y) (n .y)) (seeded c)
 unfolding wholeOf yWhole
 nonB-luma m n c r promise accepted = ap (λ (x : ReconstructedMb). x .y) (promise ∙ nonB-accepted m n c (rw promise at accepted) .2)
 
@@ -139,4 +139,4 @@ module _ (m : MbModes) (n : MbNeighbors) (c d : List ℤ) (r s : ReconstructedMb
   -- a Y block's coefficients are added to its own sixteen pixels only
   pub nonB-others : (k : ℕ) → SameButY k c d → (b : ℕ) → b < 16 → (b ≡ k → ⊥) → subOf (r .y) b ≡ subOf (s .y) b
   nonB-others k e b h q =
-      rw (nonB-luma m n c r promise accepted, nonB-luma m n d s promise2 accepted2) (plane-others (m .skip) (yPrediction (m .y) n) (seeded c) (seeded d) b h (seeded-others k c d e b q))
+      rw (nonB-luma m n c r promise accepted, nonB-luma m n d s promise2 accepted2) (plane-others (m .skip) (yPrediction (m .y) (n .y)) (seeded c) (seeded d) b h (seeded-others k c d e b q))

@@ -20,9 +20,10 @@ use Rattle.macroblock.specs.declared.modes.IntraBmode.{IntraBmode}
 use Rattle.macroblock.specs.declared.modes.IntraBmode.the-variants.{Dc}
 use Rattle.macroblock.specs.declared.modes.IntraUvMode.{IntraUvMode}
 use Rattle.macroblock.specs.declared.modes.MbModes.{MbModes}
+use Rattle.macroblock.specs.declared.neighbors.LumaEdges.{LumaEdges}
 use Rattle.macroblock.specs.declared.neighbors.MbNeighbors.{MbNeighbors}
 use Rattle.rfc6386.specs.Subblock.{predictB}
-use Rattle.rfc6386.specs.Walk.{blockAt, startOf, cornerOf, aboveIn, leftIn, topLeftIn, subPrediction, subPixels, walked, yParts, uPrediction, vPrediction, uPlane, vPlane}
+use Rattle.rfc6386.specs.Walk.{blockAt, startOf, cornerOf, aboveIn, leftIn, topLeftIn, subPrediction, subPixels, walked, yParts, uvPrediction, uvPlane}
 use Rattle.rfc6386.proofs.Parts.{parts-at}
 use Rattle.rfc6386.proofs.Planes.{plane-ext}
 use Rattle.rfc6386.proofs.Subblock.{b-length}
@@ -54,7 +55,7 @@ ready-corner (suc a) (suc b) r c e f ha hb = inr (omega arith, omega arith, omeg
 by-quarter : (k : ℕ) → 4 * (k / 4) + k % 4 ≡ k
 by-quarter k = omega arith
 
-module _ (modes : List IntraBmode) (skip : Bool) (n : MbNeighbors) (coeffs : List ℤ) (k : ℕ) (h : k < 16) where
+module _ (modes : List IntraBmode) (skip : Bool) (n : LumaEdges) (coeffs : List ℤ) (k : ℕ) (h : k < 16) where
   abbrev before : List ℕ
   before = walked k modes skip coeffs (startOf n)
 
@@ -96,11 +97,11 @@ unfolding subPixels
 pixels-length true p x e = e
 pixels-length false p x e = table-length 16 _
 
-predict-length : (modes : List IntraBmode) (n : MbNeighbors) (y : List ℕ) (k : ℕ) → length (predictSub modes n y k) ≡ 16
+predict-length : (modes : List IntraBmode) (n : LumaEdges) (y : List ℕ) (k : ℕ) → length (predictSub modes n y k) ≡ 16
 unfolding predictSub
 predict-length modes n y k = b-length (getD modes k Dc) (aboveSub n y k) (leftSub n y k) (cornerSub n y k)
 
-pub parts-ruled : (modes : List IntraBmode) (skip : Bool) (n : MbNeighbors) (coeffs : List ℤ) → Ruled modes skip n coeffs (yParts modes skip n coeffs)
+pub parts-ruled : (modes : List IntraBmode) (skip : Bool) (n : LumaEdges) (coeffs : List ℤ) → Ruled modes skip n coeffs (yParts modes skip n coeffs)
 unfolding subOf
 parts-ruled modes skip n coeffs k h =
     let y : List ℕ = yParts modes skip n coeffs in
@@ -117,13 +118,13 @@ parts-ruled modes skip n coeffs k h =
 
 -- ---- chroma, after `luma` coefficients
 module _ (mode : IntraUvMode) (skip : Bool) (n : MbNeighbors) (c : List ℤ) (luma : ℕ) where
-  u-ruled : uPlane mode skip n c luma ≡ chromaU luma mode skip n c
-  unfolding uPlane chromaU
-  u-ruled = plane-ext 8 skip (uPrediction mode n) (blockAt c luma) (uBlock luma c) (λ r s k _ _ _. ap (λ (q : ℕ). getD c q (pos 0)) (omega arith))
+  u-ruled : uvPlane mode skip (n .u) c luma ≡ chromaU luma mode skip n c
+  unfolding uvPlane chromaU
+  u-ruled = plane-ext 8 skip (uvPrediction mode (n .u)) (blockAt c luma) (uBlock luma c) (λ r s k _ _ _. ap (λ (q : ℕ). getD c q (pos 0)) (omega arith))
 
-  v-ruled : vPlane mode skip n c (luma + 64) ≡ chromaV luma mode skip n c
-  unfolding vPlane chromaV
-  v-ruled = plane-ext 8 skip (vPrediction mode n) (blockAt c (luma + 64)) (vBlock luma c) (λ r s k _ _ _. ap (λ (q : ℕ). getD c q (pos 0)) (omega arith))
+  v-ruled : uvPlane mode skip (n .v) c (luma + 64) ≡ chromaV luma mode skip n c
+  unfolding uvPlane chromaV
+  v-ruled = plane-ext 8 skip (uvPrediction mode (n .v)) (blockAt c (luma + 64)) (vBlock luma c) (λ r s k _ _ _. ap (λ (q : ℕ). getD c q (pos 0)) (omega arith))
 
 -- ---- what `decode_keyframe_mb_bpred` returns
 module _ (subs : List IntraBmode) (there : Bool) (m : MbModes) (n : MbNeighbors) (c : List ℤ) (r : ReconstructedMb)
@@ -131,12 +132,12 @@ module _ (subs : List IntraBmode) (there : Bool) (m : MbModes) (n : MbNeighbors)
   is-parts : r ≡ partsOf subs (m .uv) (m .skip) n c
   is-parts = promise ∙ walkB-accepted subs there m n c (rw promise at accepted) .2
 
-  luma-is : r .y ≡ yParts subs (m .skip) n c
+  luma-is : r .y ≡ yParts subs (m .skip) (n .y) c
   unfolding partsOf
   luma-is = ap (λ (x : ReconstructedMb). x .y) is-parts
 
-  pub walkB-ruled : Ruled subs (m .skip) n c (r .y)
-  walkB-ruled = rw luma-is (parts-ruled subs (m .skip) n c)
+  pub walkB-ruled : Ruled subs (m .skip) (n .y) c (r .y)
+  walkB-ruled = rw luma-is (parts-ruled subs (m .skip) (n .y) c)
 
   pub walkB-chroma-ruled : (r .u ≡ chromaU lumaOfB (m .uv) (m .skip) n c) × (r .v ≡ chromaV lumaOfB (m .uv) (m .skip) n c)
   unfolding partsOf
@@ -147,10 +148,10 @@ module _ (subs : List IntraBmode) (there : Bool) (m : MbModes) (n : MbNeighbors)
 
   -- row i and column j of sub-block k
   pub walkB-near : m .skip ≡ false → Blocks8191 16 (blockAt c 0) → (k i j : ℕ) → k < 16 → i < 4 → j < 4
-      → Near (r .y) ((4 * (k / 4) + i) * 16 + (4 * (k % 4) + j)) (blockAt c 0 k) i j (getD (predictSub subs n (r .y) k) (4 * i + j) 0)
+      → Near (r .y) ((4 * (k / 4) + i) * 16 + (4 * (k % 4) + j)) (blockAt c 0 k) i j (getD (predictSub subs (n .y) (r .y) k) (4 * i + j) 0)
   walkB-near coded h k i j hk hi hj =
-      let e : yParts subs false n c ≡ r .y = sym (luma-is ∙ ap (λ (s : Bool). yParts subs s n c) coded) in
-      rw (prediction-ruled subs false n c k hk, e) at (walkB-y subs there m n c r promise accepted coded h k i j hk hi hj)
+      let e : yParts subs false (n .y) c ≡ r .y = sym (luma-is ∙ ap (λ (s : Bool). yParts subs s (n .y) c) coded) in
+      rw (prediction-ruled subs false (n .y) c k hk, e) at (walkB-y subs there m n c r promise accepted coded h k i j hk hi hj)
 
 -- ---- what `decode_keyframe_mb_non_bpred` returns
 pub nonB-chroma-ruled : (m : MbModes) (n : MbNeighbors) (c : List ℤ) (r : ReconstructedMb) → r ≡ nonB m n c → r .reply ≡ done

@@ -14,7 +14,7 @@ use lib.IntN.{ℤ}
 use lib.ListN.{getD}
 use Rattle.lists.proofs.Turns.{turns-keep}
 use Rattle.macroblock.specs.declared.modes.IntraBmode.{IntraBmode}
-use Rattle.macroblock.specs.declared.neighbors.MbNeighbors.{MbNeighbors}
+use Rattle.macroblock.specs.declared.neighbors.LumaEdges.{LumaEdges}
 use Rattle.rfc6386.specs.Walk.{blockAt, startOf, cornerOf, subPrediction, subPixels, subBlock, walked, yParts}
 use Rattle.rfc6386.proofs.Parts.{pixelAt, put-outside, walked-stays, start-length, parts-at}
 use Rattle.walker_laws.specs.Around.{around}
@@ -52,7 +52,7 @@ in-plane a b x z hb =
 by-quarter : (r : ℕ) → 4 * (r / 4) + r % 4 ≡ r
 by-quarter r = omega arith
 
-module _ (modes : List IntraBmode) (skip : Bool) (n : MbNeighbors) (coeffs : List ℤ) where
+module _ (modes : List IntraBmode) (skip : Bool) (n : LumaEdges) (coeffs : List ℤ) where
   -- the buffer before sub-block k, and the macroblock
   abbrev before : ℕ → List ℕ
   before k = walked k modes skip coeffs (startOf n)

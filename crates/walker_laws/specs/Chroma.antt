@@ -7,7 +7,7 @@ use lib.IntN.{ℤ, pos}
 use lib.ListN.{getD}
 use Rattle.macroblock.specs.declared.modes.IntraUvMode.{IntraUvMode}
 use Rattle.macroblock.specs.declared.neighbors.MbNeighbors.{MbNeighbors}
-use Rattle.rfc6386.specs.Walk.{plane, uPrediction, vPrediction}
+use Rattle.rfc6386.specs.Walk.{plane, uvPrediction}
 
 -- how many coefficients come before U's: sixteen Y blocks in luma mode B, and a Y2 block before them in the 16x16 modes
 abbrev pub lumaOfB : ℕ
@@ -24,7 +24,7 @@ abbrev pub vBlock : ℕ → List ℤ → ℕ → ℕ → ℤ
 vBlock luma coeffs b i = getD coeffs (luma + 64 + 16 * b + i) (pos 0)
 
 unfoldable pub chromaU : ℕ → IntraUvMode → Bool → MbNeighbors → List ℤ → List ℕ
-chromaU luma mode skip n coeffs = plane 8 skip (uPrediction mode n) (uBlock luma coeffs)
+chromaU luma mode skip n coeffs = plane 8 skip (uvPrediction mode (n .u)) (uBlock luma coeffs)
 
 unfoldable pub chromaV : ℕ → IntraUvMode → Bool → MbNeighbors → List ℤ → List ℕ
-chromaV luma mode skip n coeffs = plane 8 skip (vPrediction mode n) (vBlock luma coeffs)
+chromaV luma mode skip n coeffs = plane 8 skip (uvPrediction mode (n .v)) (vBlock luma coeffs)

@@ -16,16 +16,16 @@ use lib.Dec.{eqb}
 use lib.IntN.{ℤ}
 use lib.ListN.{length}
 use Rattle.lists.specs.Lists.{turns, pick, both}
-use Rattle.clipping.specs.Clipped.{total}
-use Rattle.clipping.proofs.Total.{total-ext, total-add, total-none}
+use Rattle.lists.specs.Lists.{total}
+use Rattle.lists.proofs.Total.{total-ext, total-add, total-none}
 use Rattle.macroblock.specs.Reply.{done, unknownByte}
-use Rattle.record_bytes.specs.Bytes.{within}
+use Rattle.lists.specs.Lists.{within}
 use Rattle.picture_limits.proofs.Accepted.{Within, Lengths}
 use Rattle.reconstruct.specs.declared.ReconstructedMb.{ReconstructedMb}
 use Rattle.gathering.specs.Answers.{gathered}
-use Rattle.canvas.specs.Drawn.{made, clippedInto}
+use Rattle.canvas.specs.Into.{made, clippedInto}
 use Rattle.drawing.specs.Drawn.{modesKnown, drawn}
-use Rattle.still.specs.Picture.{Canvas, canvas, first, picture, countAt, countIn, firstClipped, pictureClipped}
+use Rattle.still.specs.Picture.{Progress, progress, first, picture, countAt, countIn, firstClipped, pictureClipped}
 use Rattle.still_laws.specs.Words.{lumaByte, chromaByte, skipByte, subsAt, coeffsAt, madeAt, bytesKnown, Finished, Plane}
 use Rattle.still_laws.proofs.First.{first-step, step-accepted, first-refused, finished-drawn, drawn-finished}
 use Rattle.still_laws.proofs.Answered.{Answered, drawn as pictured}
@@ -34,7 +34,7 @@ use Rattle.still_laws.proofs.Known.{turn-reply}
 use Rattle.still_laws.proofs.Replies.{first-reply}
 use Rattle.later_laws.specs.Calls.{Given, SameAt, SamePixels, ClosedIn}
 use Rattle.later_laws.proofs.Made.{around, around-same}
-use Rattle.later_laws.proofs.Refused.{drawn-none}
+use Rattle.drawing.proofs.Unread.{drawn-refused-counts-nothing}
 use Rattle.later_laws.proofs.Reached.{Steady, turnOf, AnsweredOf, finished-before, made-is, given-same, given-made, edges, reached}
 
 zero-or-not : (n : ℕ) → (n ≡ 0) ⊎ (n ≡ 0 → ⊥)
@@ -87,7 +87,7 @@ module _ (w h : ℕ) (right : ℕ → List ℕ → List ℕ) (a : Given) (fits :
       ⊎-elim
       (λ z.
       count-made n l z
-      ∙ drawn-none (lumaByte (a .modes) n) (chromaByte (a .modes) n) (skipByte (a .modes) n) (subsAt (a .subs) n) true _ (coeffsAt (a .coeffs) n)
+      ∙ drawn-refused-counts-nothing (lumaByte (a .modes) n) (chromaByte (a .modes) n) (skipByte (a .modes) n) (subsAt (a .subs) n) true _ (coeffsAt (a .coeffs) n)
       (λ q. r (turn-reply w h (a .modes) (a .subs) (a .coeffs) right n (turnOf w h right a n) z (gathers n l) ∙ q)))
       (λ q. count-ended n q)
       (zero-or-not (turnOf w h right a n .reply))
@@ -104,13 +104,13 @@ module _ (w h : ℕ) (right : ℕ → List ℕ → List ℕ) (a b : Given) (one 
       reply-is w h right a one n (omega arith) z ∙ ap (λ (t : Bool). pick t done unknownByte) (known-same a b n (same n l))
       ∙ sym (reply-is w h right b two n (omega arith) (sym e ∙ z)))
       (λ r.
-      ap (λ (d : Canvas). d .reply) (stays w h right a one n r) ∙ e ∙ sym (ap (λ (d : Canvas). d .reply) (stays w h right b two n (λ z. r (e ∙ z)))))
+      ap (λ (d : Progress). d .reply) (stays w h right a one n r) ∙ e ∙ sym (ap (λ (d : Progress). d .reply) (stays w h right b two n (λ z. r (e ∙ z)))))
       (zero-or-not (turnOf w h right a n .reply))
 
-  abbrev d : Canvas
+  abbrev d : Progress
   d = picture w h (a .modes) (a .subs) (a .coeffs) right (a .y) (a .u) (a .v)
 
-  abbrev e : Canvas
+  abbrev e : Progress
   e = picture w h (b .modes) (b .subs) (b .coeffs) right (b .y) (b .u) (b .v)
 
   pub same-finished : (j : ℕ) → j < k → Finished w h d j → Finished w h e j
@@ -194,7 +194,7 @@ module _ (w h : ℕ) (right : ℕ → List ℕ → List ℕ) (a : Given) (fits :
   abbrev all : ℕ
   all = pictureClipped w h (a .modes) (a .subs) (a .coeffs) right (a .y) (a .u) (a .v)
 
-  abbrev whole : Canvas
+  abbrev whole : Progress
   whole = picture w h (a .modes) (a .subs) (a .coeffs) right (a .y) (a .u) (a .v)
 
   abbrev rest : ℕ
@@ -221,7 +221,7 @@ module _ (w h : ℕ) (right : ℕ → List ℕ → List ℕ) (a : Given) (fits :
           total-ext (w * h - k) _ (λ i. 0)
           (λ j m.
           let s = first-refused w h (a .modes) (a .subs) (a .coeffs) right (a .y) (a .u) (a .v) (suc k) (suc (k + j)) (omega arith) refused in
-          count-refused w h right a fits (k + j) (omega arith) (λ z. refused (ap (λ (d : Canvas). d .reply) (sym s) ∙ z)))
+          count-refused w h right a fits (k + j) (omega arith) (λ z. refused (ap (λ (d : Progress). d .reply) (sym s) ∙ z)))
           ∙ total-none (w * h - k)
       in
       in-two ∙ rw none (omega arith)

@@ -13,14 +13,14 @@ use Rattle.macroblock.specs.Reply.{wrongLength, bPred, noSubModes, unknownByte}
 use Rattle.macroblock.specs.declared.modes.IntraUvMode.{IntraUvMode}
 use Rattle.macroblock.specs.declared.modes.IntraBmode.{IntraBmode}
 use Rattle.macroblock.specs.declared.modes.MbModes.{MbModes}
+use Rattle.macroblock.specs.declared.neighbors.ChromaEdges.{ChromaEdges}
 use Rattle.macroblock.specs.declared.neighbors.MbNeighbors.{MbNeighbors}
-use Rattle.record_bytes.specs.Bytes.{within}
 use Rattle.rfc6386.specs.Edges.{isB}
-use Rattle.rfc6386.specs.Walk.{blockAt, uPrediction, vPrediction, uPlane, vPlane}
+use Rattle.rfc6386.specs.Walk.{blockAt, uvPrediction, uvPlane}
 use Rattle.rfc6386.proofs.Planes.{plane-ext}
 use Rattle.reconstruct.specs.declared.ReconstructedMb.{ReconstructedMb}
 use Rattle.reconstruct.specs.Answers.{refusal, wholeOf, partsOf, nonB, walkB}
-use Rattle.drawing.specs.Drawn.{modesKnown, modesOf, subModesOf, drawnB, drawnIn, drawn}
+use Rattle.drawing.specs.Drawn.{modesKnown, modesOf, subModesOf, subsKnown, drawnB, drawnIn, drawn}
 use Rattle.still_laws.specs.Words.{Plane, inY, inU, inV, pixelsOf}
 
 -- one of two that are the same in the plane p
@@ -28,14 +28,10 @@ chosen : (p : Plane) (b : Bool) (x y z t : ReconstructedMb) → pixelsOf p x ≡
 chosen p true x y z t r s = r
 chosen p false x y z t r s = s
 
-module _ (uv : IntraUvMode) (skip : Bool) (n : MbNeighbors) (c d : List ℤ) (from : ℕ) (same : (j : ℕ) → from ≤ j → getD c j (pos 0) ≡ getD d j (pos 0)) where
-  u-same : (base : ℕ) → from ≤ base → uPlane uv skip n c base ≡ uPlane uv skip n d base
-  unfolding uPlane
-  u-same base l = plane-ext 8 skip (uPrediction uv n) (blockAt c base) (blockAt d base) (λ r s k _ _ _. same _ (omega arith))
-
-  v-same : (base : ℕ) → from ≤ base → vPlane uv skip n c base ≡ vPlane uv skip n d base
-  unfolding vPlane
-  v-same base l = plane-ext 8 skip (vPrediction uv n) (blockAt c base) (blockAt d base) (λ r s k _ _ _. same _ (omega arith))
+uv-same : (uv : IntraUvMode) (skip : Bool) (e : ChromaEdges) (c d : List ℤ) (from : ℕ) → ((j : ℕ) → from ≤ j → getD c j (pos 0) ≡ getD d j (pos 0))
+    → (base : ℕ) → from ≤ base → uvPlane uv skip e c base ≡ uvPlane uv skip e d base
+unfolding uvPlane
+uv-same uv skip e c d from same base l = plane-ext 8 skip (uvPrediction uv e) (blockAt c base) (blockAt d base) (λ r s k _ _ _. same _ (omega arith))
 
 -- two lists of one length that agree from 272 on, without their first 16
 module _ (c d : List ℤ) (long : length c ≡ length d) (same : (j : ℕ) → 272 ≤ j → getD c j (pos 0) ≡ getD d j (pos 0)) where
@@ -50,15 +46,15 @@ module _ (n : MbNeighbors) (c d : List ℤ) where
       → pixelsOf p (wholeOf (m .y) (m .uv) (m .skip) n c) ≡ pixelsOf p (wholeOf (m .y) (m .uv) (m .skip) n d)
   unfolding wholeOf
   whole-same inY q same m = absurd (q refl)
-  whole-same inU q same m = u-same (m .uv) (m .skip) n c d 272 same 272 (omega arith)
-  whole-same inV q same m = v-same (m .uv) (m .skip) n c d 272 same 336 (omega arith)
+  whole-same inU q same m = uv-same (m .uv) (m .skip) (n .u) c d 272 same 272 (omega arith)
+  whole-same inV q same m = uv-same (m .uv) (m .skip) (n .v) c d 272 same 336 (omega arith)
 
   parts-same : (p : Plane) → (p ≡ inY → ⊥) → ((j : ℕ) → 256 ≤ j → getD c j (pos 0) ≡ getD d j (pos 0)) → (subs : List IntraBmode) (m : MbModes)
       → pixelsOf p (partsOf subs (m .uv) (m .skip) n c) ≡ pixelsOf p (partsOf subs (m .uv) (m .skip) n d)
   unfolding partsOf
   parts-same inY q same subs m = absurd (q refl)
-  parts-same inU q same subs m = u-same (m .uv) (m .skip) n c d 256 same 256 (omega arith)
-  parts-same inV q same subs m = v-same (m .uv) (m .skip) n c d 256 same 320 (omega arith)
+  parts-same inU q same subs m = uv-same (m .uv) (m .skip) (n .u) c d 256 same 256 (omega arith)
+  parts-same inV q same subs m = uv-same (m .uv) (m .skip) (n .v) c d 256 same 320 (omega arith)
 
   nonB-same : (p : Plane) → (p ≡ inY → ⊥) → length c ≡ length d → ((j : ℕ) → 272 ≤ j → getD c j (pos 0) ≡ getD d j (pos 0)) → (m : MbModes)
       → pixelsOf p (nonB m n c) ≡ pixelsOf p (nonB m n d)
@@ -89,7 +85,7 @@ drawn-chroma p q n c d long same luma chroma skip subs there =
     (chosen p (eqb (length d) 400) _ _ (refusal wrongLength) (refusal wrongLength)
     (chosen p (modesKnown luma chroma skip) _ _ (refusal unknownByte) (refusal unknownByte)
     (chosen p (isB (m .y)) _ _ (nonB m n c) (nonB m n d)
-    (chosen p (within 9 16 subs) (walkB (subModesOf subs) there m n (drop 16 c)) (walkB (subModesOf subs) there m n (drop 16 d)) (refusal unknownByte) (refusal unknownByte)
+    (chosen p (subsKnown subs there) (walkB (subModesOf subs) there m n (drop 16 c)) (walkB (subModesOf subs) there m n (drop 16 d)) (refusal unknownByte) (refusal unknownByte)
     (walkB-same n (drop 16 c) (drop 16 d) p q (long-rest c d long same) (same-rest c d long same) (subModesOf subs) there m) refl)
     (nonB-same n c d p q long same m))
     refl)

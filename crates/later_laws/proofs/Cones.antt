@@ -16,7 +16,7 @@ use lib.Dec.{eqb}
 use Rattle.picture_limits.proofs.Accepted.{Within}
 use Rattle.walker_laws.specs.Moves.{Untouched, UntouchedChroma, Closed, ClosedChroma}
 use Rattle.walker_laws.proofs.Later.{untouched-closed, untouched-closed-chroma}
-use Rattle.still.specs.Picture.{Canvas}
+use Rattle.still.specs.Picture.{Progress}
 use Rattle.still_laws.specs.Words.{Plane, inY, inU, inV, lumaByte, chromaByte, skipByte, subsAt, coeffsAt, Finished}
 use Rattle.still_laws.proofs.Digits.{rows-rise}
 use Rattle.later_laws.specs.Calls.{Given, SameBut, SameChromaAt, SamePixels, ClosedIn, DrawnTo}
@@ -84,7 +84,7 @@ raster-chroma : (w k j : ℕ) → 0 < w → j < k → UntouchedChroma (k / w) (k
 raster-chroma w k j h l = ⊎-elim (λ e. inr (before-in-row w k j l e)) inl (eq-or-lt-of-le (rows-rise w j k h (omega arith)))
 
 -- ---- two answers
-module _ (w h : ℕ) (right : ℕ → List ℕ → List ℕ) (steady : Within w h 0 0 → Steady w h right) (k : ℕ) (a b : Given) (only : SameBut k a b) (d e : Canvas)
+module _ (w h : ℕ) (right : ℕ → List ℕ → List ℕ) (steady : Within w h 0 0 → Steady w h right) (k : ℕ) (a b : Given) (only : SameBut k a b) (d e : Progress)
     (one : AnsweredOf w h right a d) (two : AnsweredOf w h right b e) where
   pub luma : (j : ℕ) → Finished w h d j → Finished w h e j → Untouched (k / w) (k % w) (j / w) (j % w) → SamePixels inY w j d e
   luma j f g u =
@@ -102,7 +102,7 @@ module _ (w h : ℕ) (right : ℕ → List ℕ → List ℕ) (steady : Within w 
       by-place : (i : ℕ) → SameMade p a b i
       by-place i = ⊎-elim (λ e. subst (λ (x : ℕ). SameMade p a b x) (sym e) (chroma-made p n a b k s)) (λ m. given-made p a b i (only i m)) (is-or-not i k)
 
-  drawn-to : {d : Canvas} (j : ℕ) → j < k → j < w * h → DrawnTo k d → Finished w h d j
+  drawn-to : {d : Progress} (j : ℕ) → j < k → j < w * h → DrawnTo k d → Finished w h d j
   drawn-to j l m t = record { inside = m; drawn = ⊎-elim inl (λ q. inr (omega arith)) t }
 
   wide : (j : ℕ) → Finished w h d j → 0 < w

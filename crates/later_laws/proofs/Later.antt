@@ -17,7 +17,7 @@ use native.Mathlib.Omega.{arith}
 use lib.ListN.{length}
 use Rattle.lists.proofs.Tests.{left-holds}
 use Rattle.walker_laws.specs.Moves.{Untouched, UntouchedChroma}
-use Rattle.still.specs.Picture.{Canvas, picture, pictureClipped, rightGiven, rightRead}
+use Rattle.still.specs.Picture.{Progress, picture, pictureClipped, rightGiven, rightRead}
 use Rattle.still.specs.Answers.{aloneFits, stillAnswer, aloneAnswer, stillClipped, aloneClipped}
 use Rattle.still.proofs.Sizes.{size-says, fits}
 use Rattle.still_laws.specs.Words.{Plane, inY, Finished}
@@ -49,15 +49,15 @@ module _ (w h : ℕ) (right : List ℕ) (a : Given) where
       }
 
   -- a call counts what it has counted before macroblock k, and no more where it is refused there
-  pub still-counted : (r : Canvas × ℕ) → r ≡ stillOf w h right a → FitsStill w h right a → (k : ℕ) → k < w * h
+  pub still-counted : (r : Progress × ℕ) → r ≡ stillOf w h right a → FitsStill w h right a → (k : ℕ) → k < w * h
       → (stillCount w h right a k ≤ r .1) × ((r .0 .reply ≡ 0 → ⊥) → r .0 .index ≡ k → r .1 ≡ stillCount w h right a k)
   still-counted r promise f k l =
-      let p = ap (λ (x : Canvas × ℕ). x .0) promise ∙ still-picture f in
-      let q = ap (λ (x : Canvas × ℕ). x .1) promise ∙ still-clipped f in
+      let p = ap (λ (x : Progress × ℕ). x .0) promise ∙ still-picture f in
+      let q = ap (λ (x : Progress × ℕ). x .1) promise ∙ still-clipped f in
       rw (p, q)
       (counted-part w h (rightGiven right) a (still-fitting f) k (le-of-lt l), λ n i. counted-all w h (rightGiven right) a (still-fitting f) k (le-of-lt l) l n i)
 
-module _ (w h : ℕ) (right : List ℕ) (k : ℕ) (a b : Given) (only : SameBut k a b) (r s : Canvas × ℕ)
+module _ (w h : ℕ) (right : List ℕ) (k : ℕ) (a b : Given) (only : SameBut k a b) (r s : Progress × ℕ)
     (promise : r ≡ stillOf w h right a) (promise2 : s ≡ stillOf w h right b) where
   still-one : AnsweredOf w h (rightGiven right) a (r .0)
   still-one = rw promise (still-answered w h (a .modes) (a .subs) (a .coeffs) (a .y) (a .u) (a .v) right)
@@ -83,8 +83,8 @@ module _ (w h : ℕ) (right : List ℕ) (k : ℕ) (a b : Given) (only : SameBut 
   module _ (fit : FitsStill w h right a) (fit2 : FitsStill w h right b) (inside : k ≤ w * h) where
     pub still-together : (j : ℕ) → j < k → Finished w h (r .0) j → Finished w h (s .0) j
     still-together j l f =
-        let p = ap (λ (x : Canvas × ℕ). x .0) promise ∙ still-picture w h right a fit in
-        let q = ap (λ (x : Canvas × ℕ). x .0) promise2 ∙ still-picture w h right b fit2 in
+        let p = ap (λ (x : Progress × ℕ). x .0) promise ∙ still-picture w h right a fit in
+        let q = ap (λ (x : Progress × ℕ). x .0) promise2 ∙ still-picture w h right b fit2 in
         rw q
         (same-finished w h (rightGiven right) a b (still-fitting w h right a fit) (still-fitting w h right b fit2) k inside (λ i m. only i (λ e. omega arith)) j l
         (rw p at f))
@@ -114,15 +114,15 @@ module _ (w h : ℕ) (a : Given) where
       }
 
   -- a call counts what it has counted before macroblock k, and no more where it is refused there
-  pub alone-counted : (r : Canvas × ℕ) → r ≡ aloneOf w h a → FitsAlone w h a → (k : ℕ) → k < w * h
+  pub alone-counted : (r : Progress × ℕ) → r ≡ aloneOf w h a → FitsAlone w h a → (k : ℕ) → k < w * h
       → (aloneCount w h a k ≤ r .1) × ((r .0 .reply ≡ 0 → ⊥) → r .0 .index ≡ k → r .1 ≡ aloneCount w h a k)
   alone-counted r promise f k l =
-      let p = ap (λ (x : Canvas × ℕ). x .0) promise ∙ alone-picture f in
-      let q = ap (λ (x : Canvas × ℕ). x .1) promise ∙ alone-clipped f in
+      let p = ap (λ (x : Progress × ℕ). x .0) promise ∙ alone-picture f in
+      let q = ap (λ (x : Progress × ℕ). x .1) promise ∙ alone-clipped f in
       rw (p, q)
       (counted-part w h (rightRead w h) a (alone-fitting f) k (le-of-lt l), λ n i. counted-all w h (rightRead w h) a (alone-fitting f) k (le-of-lt l) l n i)
 
-module _ (w h : ℕ) (k : ℕ) (a b : Given) (only : SameBut k a b) (r s : Canvas × ℕ)
+module _ (w h : ℕ) (k : ℕ) (a b : Given) (only : SameBut k a b) (r s : Progress × ℕ)
     (promise : r ≡ aloneOf w h a) (promise2 : s ≡ aloneOf w h b) where
   alone-one : AnsweredOf w h (rightRead w h) a (r .0)
   alone-one = rw promise (alone-answered w h (a .modes) (a .subs) (a .coeffs) (a .y) (a .u) (a .v))
@@ -148,8 +148,8 @@ module _ (w h : ℕ) (k : ℕ) (a b : Given) (only : SameBut k a b) (r s : Canva
   module _ (fit : FitsAlone w h a) (fit2 : FitsAlone w h b) (inside : k ≤ w * h) where
     pub alone-together : (j : ℕ) → j < k → Finished w h (r .0) j → Finished w h (s .0) j
     alone-together j l f =
-        let p = ap (λ (x : Canvas × ℕ). x .0) promise ∙ alone-picture w h a fit in
-        let q = ap (λ (x : Canvas × ℕ). x .0) promise2 ∙ alone-picture w h b fit2 in
+        let p = ap (λ (x : Progress × ℕ). x .0) promise ∙ alone-picture w h a fit in
+        let q = ap (λ (x : Progress × ℕ). x .0) promise2 ∙ alone-picture w h b fit2 in
         rw q
         (same-finished w h (rightRead w h) a b (alone-fitting w h a fit) (alone-fitting w h b fit2) k inside (λ i m. only i (λ e. omega arith)) j l
         (rw p at f))

@@ -5,7 +5,6 @@ pub mod Made
 pub mod Chroma
 pub mod Reached
 pub mod Steady
-pub mod Refused
 pub mod Before
 pub mod Cones
 pub mod Later

@@ -6,7 +6,7 @@
 use Prim.Native.Nat.{ℕ}
 use mathlib.Core.Path.{_≡_, refl, ap, _∙_}
 use mathlib.Core.Bool.{Bool, true, false}
-use mathlib.Core.List.{List}
+use mathlib.Core.List.{List, []}
 use lib.Dec.{eqb}
 use lib.IntN.{ℤ}
 use lib.ListN.{length, drop}
@@ -16,15 +16,16 @@ use Rattle.macroblock.specs.declared.modes.IntraYMode.{IntraYMode}
 use Rattle.macroblock.specs.declared.modes.IntraUvMode.{IntraUvMode}
 use Rattle.macroblock.specs.declared.modes.IntraBmode.{IntraBmode}
 use Rattle.macroblock.specs.declared.modes.MbModes.{MbModes}
+use Rattle.macroblock.specs.declared.neighbors.LumaEdges.{LumaEdges}
+use Rattle.macroblock.specs.declared.neighbors.ChromaEdges.{ChromaEdges}
 use Rattle.macroblock.specs.declared.neighbors.MbNeighbors.{MbNeighbors}
-use Rattle.record_bytes.specs.Bytes.{within}
 use Rattle.rfc6386.specs.Edges.{isB}
-use Rattle.rfc6386.specs.Picture.{aboveOf, leftOf, topLeftOf, aboveRightOf, neighborsOf}
-use Rattle.rfc6386.specs.Walk.{yPrediction, uPrediction, vPrediction, yWhole, uPlane, vPlane, startOf, yParts}
+use Rattle.rfc6386.specs.Picture.{rowAbove, leftOf, lumaBeside, chromaBeside, neighborsOf}
+use Rattle.rfc6386.specs.Walk.{yWhole, uvPlane, yParts}
 use Rattle.reconstruct.specs.declared.ReconstructedMb.{ReconstructedMb}
 use Rattle.reconstruct.specs.Answers.{refusal, wholeOf, partsOf, nonB, walkB}
-use Rattle.drawing.specs.Drawn.{modesKnown, modesOf, subModesOf, drawnB, drawnIn, drawn}
-use Rattle.still.specs.Picture.{Canvas}
+use Rattle.drawing.specs.Drawn.{modesKnown, modesOf, subModesOf, subsKnown, drawnB, drawnIn, drawn}
+use Rattle.still.specs.Picture.{Progress}
 use Rattle.still_laws.specs.Words.{Plane, inY, inU, inV, side, planeOf, pixelsOf}
 
 -- ---- f is the part, n and o are the neighbours
@@ -54,7 +55,7 @@ module _ {A : Type 0} (f : ReconstructedMb → A) (n o : MbNeighbors)
   unfolding drawnIn drawnB
   in-by m subs there c =
       chosen (isB (m .y)) (drawnB m subs there n c) (drawnB m subs there o c) (nonB m n c) (nonB m o c)
-      (chosen (within 9 16 subs) (walkB (subModesOf subs) there m n (drop 16 c)) (walkB (subModesOf subs) there m o (drop 16 c))
+      (chosen (subsKnown subs there) (walkB (subModesOf subs) there m n (drop 16 c)) (walkB (subModesOf subs) there m o (drop 16 c))
       (refusal unknownByte) (refusal unknownByte) (walkB-by (subModesOf subs) there m (drop 16 c)) refl)
       (nonB-by m c)
 
@@ -69,49 +70,49 @@ module _ {A : Type 0} (f : ReconstructedMb → A) (n o : MbNeighbors)
       refl
 
 -- ---- the edges of the macroblock in row r and column c, in the plane p of d and of e
-pub record SameEdges (p : Plane) (w r c : ℕ) (d : Canvas) (right : List ℕ) (e : Canvas) (other : List ℕ) : Type 0 where
-  pub above : aboveOf (side p) (planeOf p d) w r c ≡ aboveOf (side p) (planeOf p e) w r c
-  pub left : leftOf (side p) (planeOf p d) w r c ≡ leftOf (side p) (planeOf p e) w r c
-  pub corner : topLeftOf (side p) (planeOf p d) w r c ≡ topLeftOf (side p) (planeOf p e) w r c
-  pub above-right : p ≡ inY → aboveRightOf (planeOf p d) w r c right ≡ aboveRightOf (planeOf p e) w r c other
+abbrev pub rowIn : Plane → Progress → ℕ → ℕ → ℕ → List ℕ → List ℕ
+rowIn inY d w c r right = rowAbove 16 21 (d .y) w c r right
+rowIn inU d w c r right = rowAbove 8 9 (d .u) w c r []
+rowIn inV d w c r right = rowAbove 8 9 (d .v) w c r []
 
-abbrev pub around : ℕ → ℕ → ℕ → Canvas → List ℕ → MbNeighbors
-around w r c d right = neighborsOf (d .y) (d .u) (d .v) w r c right
+pub record SameEdges (p : Plane) (w r c : ℕ) (d : Progress) (right : List ℕ) (e : Progress) (other : List ℕ) : Type 0 where
+  pub row : rowIn p d w c r right ≡ rowIn p e w c r other
+  pub left : leftOf (side p) (planeOf p d) w c r ≡ leftOf (side p) (planeOf p e) w c r
 
-module _ (w r c : ℕ) (d : Canvas) (right : List ℕ) (e : Canvas) (other : List ℕ) where
+abbrev pub around : ℕ → ℕ → ℕ → Progress → List ℕ → MbNeighbors
+around w r c d right = neighborsOf (d .y) (d .u) (d .v) w c r right
+
+module _ (w r c : ℕ) (d : Progress) (right : List ℕ) (e : Progress) (other : List ℕ) where
   abbrev n : MbNeighbors
   n = around w r c d right
 
   abbrev o : MbNeighbors
   o = around w r c e other
 
-  y-whole : SameEdges inY w r c d right e other → (y : IntraYMode) (skip : Bool) (k : List ℤ) → yWhole y skip n k ≡ yWhole y skip o k
-  unfolding yWhole yPrediction neighborsOf
-  y-whole s y skip k = rw (s .above, s .left, s .corner)
+  y-edges : SameEdges inY w r c d right e other → n .y ≡ o .y
+  unfolding neighborsOf lumaBeside
+  y-edges s = rw (s .row, s .left)
 
-  y-parts : SameEdges inY w r c d right e other → (subs : List IntraBmode) (skip : Bool) (k : List ℤ) → yParts subs skip n k ≡ yParts subs skip o k
-  unfolding yParts startOf neighborsOf
-  y-parts s subs skip k = rw (s .above, s .left, s .corner, s .above-right refl)
+  u-edges : SameEdges inU w r c d right e other → n .u ≡ o .u
+  unfolding neighborsOf chromaBeside
+  u-edges s = rw (s .row, s .left)
 
-  u-plane : SameEdges inU w r c d right e other → (uv : IntraUvMode) (skip : Bool) (k : List ℤ) (base : ℕ) → uPlane uv skip n k base ≡ uPlane uv skip o k base
-  unfolding uPlane uPrediction neighborsOf
-  u-plane s uv skip k base = rw (s .above, s .left, s .corner)
-
-  v-plane : SameEdges inV w r c d right e other → (uv : IntraUvMode) (skip : Bool) (k : List ℤ) (base : ℕ) → vPlane uv skip n k base ≡ vPlane uv skip o k base
-  unfolding vPlane vPrediction neighborsOf
-  v-plane s uv skip k base = rw (s .above, s .left, s .corner)
+  v-edges : SameEdges inV w r c d right e other → n .v ≡ o .v
+  unfolding neighborsOf chromaBeside
+  v-edges s = rw (s .row, s .left)
 
   pub drawn-pixels : (p : Plane) → SameEdges p w r c d right e other → (luma chroma skip : ℕ) (subs : List ℕ) (there : Bool) (k : List ℤ)
       → pixelsOf p (drawn luma chroma skip subs there n k) ≡ pixelsOf p (drawn luma chroma skip subs there o k)
   unfolding wholeOf partsOf
-  drawn-pixels inY s = drawn-by (pixelsOf inY) n o (λ y uv skip k. y-whole s y skip k) (λ subs uv skip k. y-parts s subs skip k)
-  drawn-pixels inU s = drawn-by (pixelsOf inU) n o (λ y uv skip k. u-plane s uv skip k 272) (λ subs uv skip k. u-plane s uv skip k 256)
-  drawn-pixels inV s = drawn-by (pixelsOf inV) n o (λ y uv skip k. v-plane s uv skip k 336) (λ subs uv skip k. v-plane s uv skip k 320)
+  drawn-pixels inY s =
+      drawn-by (pixelsOf inY) n o (λ y uv skip k. ap (λ (q : LumaEdges). yWhole y skip q k) (y-edges s))
+      (λ subs uv skip k. ap (λ (q : LumaEdges). yParts subs skip q k) (y-edges s))
+  drawn-pixels inU s =
+      drawn-by (pixelsOf inU) n o (λ y uv skip k. ap (λ (q : ChromaEdges). uvPlane uv skip q k 272) (u-edges s))
+      (λ subs uv skip k. ap (λ (q : ChromaEdges). uvPlane uv skip q k 256) (u-edges s))
+  drawn-pixels inV s =
+      drawn-by (pixelsOf inV) n o (λ y uv skip k. ap (λ (q : ChromaEdges). uvPlane uv skip q k 336) (v-edges s))
+      (λ subs uv skip k. ap (λ (q : ChromaEdges). uvPlane uv skip q k 320) (v-edges s))
 
   pub around-same : ((p : Plane) → SameEdges p w r c d right e other) → n ≡ o
-  unfolding neighborsOf
-  around-same s =
-      let a = s inY in
-      let b = s inU in
-      let c = s inV in
-      rw (a .above, a .left, a .corner, a .above-right refl, b .above, b .left, b .corner, c .above, c .left, c .corner)
+  around-same s = λ i. record { y = y-edges (s inY) i; u = u-edges (s inU) i; v = v-edges (s inV) i }

@@ -5,19 +5,18 @@
 use Prim.Native.Nat.{ℕ, zero, suc, _+_, _-_, _*_, _/_, _%_, _<_, _≤_}
 use mathlib.Core.Path.{_≡_, refl, sym, ap, subst, _∙_}
 use mathlib.Core.Bool.{true}
-use mathlib.Core.List.{List}
+use mathlib.Core.List.{List, []}
 use mathlib.Core.Logic.{inr, ⊎-elim, inl}
 use native.Mathlib.Nat.{mod-lt, div-add-mod, mul-add-mod-self-left, mod-eq-of-lt, mul-add-div, div-eq-of-lt, add-zero, le-of-lt}
 use native.Mathlib.Omega.{arith}
 use lib.ListN.{length, getD}
 use Rattle.macroblock.specs.declared.neighbors.MbNeighbors.{MbNeighbors}
-use Rattle.rfc6386.specs.Picture.{aboveRightOf}
 use Rattle.reconstruct.specs.declared.ReconstructedMb.{ReconstructedMb}
 use Rattle.picture_limits.proofs.Accepted.{Within, Lengths}
 use Rattle.drawing.specs.Drawn.{drawn}
-use Rattle.canvas.specs.Drawn.{made}
+use Rattle.canvas.specs.Into.{made}
 use Rattle.canvas.specs.Placed.{pixelAt}
-use Rattle.still.specs.Picture.{Canvas, canvas, first, picture}
+use Rattle.still.specs.Picture.{Progress, progress, first, picture}
 use Rattle.still.proofs.Sizes.{row-within}
 use Rattle.still_laws.specs.Words.{Plane, inY, inU, inV, side, planeOf, foundIn, pixelsOf, pixelOf, neighborsAt, lumaByte, chromaByte, skipByte, subsAt, coeffsAt, madeAt, Finished}
 use Rattle.still_laws.proofs.Digits.{macroblock-apart}
@@ -26,8 +25,22 @@ use Rattle.still_laws.proofs.Answered.{Answered, refused, drawn as pictured}
 use Rattle.still_laws.proofs.Neighbors.{finished-neighbors}
 use Rattle.still_laws.proofs.Pixels.{finished-pixels}
 use Rattle.later_laws.specs.Calls.{Given, SameAt, SamePixels, ClosedIn}
-use Rattle.later_laws.proofs.Edges.{SameBlock, above-same, left-same, corner-same, right-same}
-use Rattle.later_laws.proofs.Made.{SameEdges, around, drawn-pixels}
+use Rattle.later_laws.proofs.Edges.{SameBlock, left-same, row-same}
+use Rattle.later_laws.proofs.Made.{SameEdges, rowIn, around, drawn-pixels}
+
+-- ---- the row above in a plane: only luma's goes on to the right
+rows-same : (p : Plane) (w r c : ℕ) (d e : Progress) (right other : List ℕ) → c < w
+    → ((s t : ℕ) → r ≡ suc s → c ≡ suc t → SameBlock (side p) w (planeOf p d) (planeOf p e) s t)
+    → ((s : ℕ) → r ≡ suc s → SameBlock (side p) w (planeOf p d) (planeOf p e) s c)
+    → (p ≡ inY → (s : ℕ) → r ≡ suc s → c + 1 < w → SameBlock (side p) w (planeOf p d) (planeOf p e) s (suc c))
+    → (p ≡ inY → (s : ℕ) → r ≡ suc s → w ≤ c + 1 → right ≡ other)
+    → rowIn p d w c r right ≡ rowIn p e w c r other
+rows-same inY w r c d e right other i corner over beside given =
+    row-same 16 w (d .y) (e .y) right other 21 r c (omega arith) (omega arith) i corner over (λ _. beside refl) (λ _. given refl)
+rows-same inU w r c d e right other i corner over beside given =
+    row-same 8 w (d .u) (e .u) [] [] 9 r c (omega arith) (omega arith) i corner over (λ q. absurd (omega arith)) (λ q. absurd (omega arith))
+rows-same inV w r c d e right other i corner over beside given =
+    row-same 8 w (d .v) (e .v) [] [] 9 r c (omega arith) (omega arith) i corner over (λ q. absurd (omega arith)) (λ q. absurd (omega arith))
 
 -- ---- a place by its raster index
 row-of : (w s t : ℕ) → t < w → (w * s + t) / w ≡ s
@@ -51,24 +64,24 @@ Steady w h right =
     (r : ℕ) (l m : List ℕ) → length l ≡ 256 * (w * h) → length m ≡ 256 * (w * h) → suc r < h → SameBlock 16 w l m r (w - 1) → right (suc r) l ≡ right (suc r) m
 
 -- ---- one call: `at k` are its planes before macroblock k
-abbrev pub turnOf : ℕ → ℕ → (ℕ → List ℕ → List ℕ) → Given → ℕ → Canvas
+abbrev pub turnOf : ℕ → ℕ → (ℕ → List ℕ → List ℕ) → Given → ℕ → Progress
 turnOf w h right a k = first w h (a .modes) (a .subs) (a .coeffs) right k (a .y) (a .u) (a .v)
 
-abbrev pub AnsweredOf : ℕ → ℕ → (ℕ → List ℕ → List ℕ) → Given → Canvas → Type 0
+abbrev pub AnsweredOf : ℕ → ℕ → (ℕ → List ℕ → List ℕ) → Given → Progress → Type 0
 AnsweredOf w h right a d = Answered w h (a .modes) (a .subs) (a .coeffs) (a .y) (a .u) (a .v) right d
 
 module _ (w h : ℕ) (right : ℕ → List ℕ → List ℕ) (a : Given) where
-  abbrev at : ℕ → Canvas
+  abbrev at : ℕ → Progress
   at k = turnOf w h right a k
 
   -- a finished macroblock is of a picture that was drawn
-  pub was-drawn : {d : Canvas} → AnsweredOf w h right a d → (k : ℕ) → Finished w h d k
+  pub was-drawn : {d : Progress} → AnsweredOf w h right a d → (k : ℕ) → Finished w h d k
       → (Within w h 0 0) × (Lengths (length (a .y)) (length (a .u)) (length (a .v)) w h)
   was-drawn (refused n r) k f = absurd (⊎-elim r (λ l. omega arith) (f .drawn))
   was-drawn (pictured size fits) k f = (size, fits)
 
   -- its pixels are at every later turn what they are in the end
-  settled : {d : Canvas} → AnsweredOf w h right a d → (k : ℕ) → Finished w h d k → (j : ℕ) → j < k → (p : Plane) → SamePixels p w j d (at k)
+  settled : {d : Progress} → AnsweredOf w h right a d → (k : ℕ) → Finished w h d k → (j : ℕ) → j < k → (p : Plane) → SamePixels p w j d (at k)
   unfolding picture
   settled (refused n r) k f j l p i x hi hx = absurd (⊎-elim r (λ l. omega arith) (f .drawn))
   settled (pictured size fits) k f j l p i x hi hx =
@@ -76,11 +89,11 @@ module _ (w h : ℕ) (right : ℕ → List ℕ → List ℕ) (a : Given) where
       (λ m s t _ u z hu hz e. let q : j ≡ m = macroblock-apart (side p) w j m i x u z (size .column) hi hx hu hz e in omega arith)
 
   -- what is before a finished macroblock is finished
-  pub finished-before : {d : Canvas} (k j : ℕ) → j ≤ k → Finished w h d k → Finished w h d j
+  pub finished-before : {d : Progress} (k j : ℕ) → j ≤ k → Finished w h d k → Finished w h d j
   finished-before k j l f = record { inside = omega arith; drawn = ⊎-elim inl (λ g. inr (omega arith)) (f .drawn) }
 
   -- the walkers' answer, from the planes at its turn
-  pub made-is : {d : Canvas} → AnsweredOf w h right a d → (k : ℕ) → Finished w h d k
+  pub made-is : {d : Progress} → AnsweredOf w h right a d → (k : ℕ) → Finished w h d k
       → madeAt w h (a .modes) (a .subs) (a .coeffs) right k (at k)
       ≡ drawn (lumaByte (a .modes) k) (chromaByte (a .modes) k) (skipByte (a .modes) k) (subsAt (a .subs) k) true
       (around w (k / w) (k % w) (at k) (right (k / w) (at k .y))) (coeffsAt (a .coeffs) k)
@@ -121,15 +134,15 @@ pub given-made : (p : Plane) (a b : Given) (j : ℕ) → SameAt a b j → SameMa
 given-made p a b j s n = ap (λ (m : ReconstructedMb). pixelsOf p m) (given-same a b j n s)
 
 -- ---- two calls, one plane, a closed set P
-module _ (w h : ℕ) (right : ℕ → List ℕ → List ℕ) (steady : Within w h 0 0 → Steady w h right) (a b : Given) (d e : Canvas)
+module _ (w h : ℕ) (right : ℕ → List ℕ → List ℕ) (steady : Within w h 0 0 → Steady w h right) (a b : Given) (d e : Progress)
     (one : AnsweredOf w h right a d) (two : AnsweredOf w h right b e) where
   -- macroblock k is finished in both; those of P before it are the same
   module _ (p : Plane) (P : ℕ → ℕ → Type 0) (closed : ClosedIn p P) (k : ℕ) (f : Finished w h d k) (g : Finished w h e k) (here : P (k / w) (k % w))
       (earlier : (j : ℕ) → j < k → P (j / w) (j % w) → SamePixels p w j d e) where
-    abbrev before : Canvas
+    abbrev before : Progress
     before = turnOf w h right a k
 
-    abbrev other : Canvas
+    abbrev other : Progress
     other = turnOf w h right b k
 
     some : 0 < w
@@ -190,22 +203,12 @@ module _ (w h : ℕ) (right : ℕ → List ℕ → List ℕ) (steady : Within w 
         (turn-length w h right b k inY ∙ was-drawn w h right b two k g .1 .y-plane) (omega arith)
         (subst (λ (x : ℕ). SameBlock 16 w (before .y) (other .y) s x) last (in-luma s (k % w) y (above-block s q))))
 
-    rights : p ≡ inY
-        → aboveRightOf (before .y) w (k / w) (k % w) (right (k / w) (before .y)) ≡ aboveRightOf (other .y) w (k / w) (k % w) (right (k / w) (other .y))
-    rights y =
-        right-same w (before .y) (other .y) (subst (λ (z : Plane). length (planeOf z before) ≡ length (planeOf z other)) y long)
-        (right (k / w) (before .y)) (right (k / w) (other .y)) (k / w) (k % w)
-        (λ s q l. in-luma s (suc (k % w)) y (right-block y s q l)) (lent y)
-
     pub edges : SameEdges p w (k / w) (k % w) before (right (k / w) (before .y)) other (right (k / w) (other .y))
     edges =
         record {
-          above = above-same (side p) w (planeOf p before) (planeOf p other) (some-side p) long (k / w) (k % w) above-block;
-          left = left-same (side p) w (planeOf p before) (planeOf p other) (some-side p) long (k / w) (k % w) left-block;
-          corner = corner-same (side p) w (planeOf p before) (planeOf p other) (some-side p) long (k / w) (k % w) corner-block;
-          above-right = λ y.
-            subst (λ (z : Plane). aboveRightOf (planeOf z before) w (k / w) (k % w) (right (k / w) (before .y)) ≡ aboveRightOf (planeOf z other) w (k / w) (k % w) (right (k / w) (other .y)))
-            (sym y) (rights y);
+          row =
+            rows-same p w (k / w) (k % w) before other (right (k / w) (before .y)) (right (k / w) (other .y)) (mod-lt k some) corner-block above-block right-block lent;
+          left = left-same (side p) w (planeOf p before) (planeOf p other) (some-side p) (k / w) (k % w) left-block;
         }
 
     same-made : SameMade p a b k

@@ -7,9 +7,10 @@ use mathlib.Core.Logic.{_⊎_}
 use lib.IntN.{ℤ, pos}
 use lib.ListN.{length, getD}
 use Rattle.macroblock.specs.Reply.{done}
+use Rattle.rfc6386.specs.Picture.{sizeOk}
 use Rattle.walker_laws.specs.Chroma.{lumaOf16x16}
-use Rattle.still.specs.Picture.{Canvas, firstClipped, rightGiven, rightRead}
-use Rattle.still.specs.Answers.{sizeOk, stillFits, aloneFits, stillTold, aloneTold}
+use Rattle.still.specs.Picture.{Progress, firstClipped, rightGiven, rightRead}
+use Rattle.still.specs.Answers.{stillFits, aloneFits, stillTold, aloneTold}
 use Rattle.still_laws.specs.Words.{Plane, inY, side, planeOf, pixelOf, lumaByte, chromaByte, skipByte, subsAt, coeffsAt}
 
 -- what a call is given for its macroblocks, and the planes as it finds them
@@ -43,14 +44,14 @@ pub record SameChromaAt (a b : Given) (j : ℕ) : Type 0 where
   pub coefficients : (i : ℕ) → lumaOf16x16 ≤ i → getD (coeffsAt (a .coeffs) j) i (pos 0) ≡ getD (coeffsAt (b .coeffs) j) i (pos 0)
 
 -- ---- what the two calls answer: the planes, the reply and the index, beside the count
-abbrev pub stillOf : ℕ → ℕ → List ℕ → Given → Canvas × ℕ
+abbrev pub stillOf : ℕ → ℕ → List ℕ → Given → Progress × ℕ
 stillOf w h right a = stillTold w h (a .modes) (a .subs) (a .coeffs) right (a .y) (a .u) (a .v)
 
-abbrev pub aloneOf : ℕ → ℕ → Given → Canvas × ℕ
+abbrev pub aloneOf : ℕ → ℕ → Given → Progress × ℕ
 aloneOf w h a = aloneTold w h (a .modes) (a .subs) (a .coeffs) (a .y) (a .u) (a .v)
 
 -- the call has drawn its first k macroblocks: it is accepted, or refused at k or later
-abbrev pub DrawnTo : ℕ → Canvas → Type 0
+abbrev pub DrawnTo : ℕ → Progress → Type 0
 DrawnTo k d = (d .reply ≡ done) ⊎ (k ≤ d .index)
 
 -- its size and its lengths are accepted
@@ -68,7 +69,7 @@ abbrev pub aloneCount : ℕ → ℕ → Given → ℕ → ℕ
 aloneCount w h a k = firstClipped w h (a .modes) (a .subs) (a .coeffs) (rightRead w h) k (a .y) (a .u) (a .v)
 
 -- ---- macroblock j has the same pixels in the plane p of two pictures w macroblocks wide
-abbrev pub SamePixels : Plane → ℕ → ℕ → Canvas → Canvas → Type 0
+abbrev pub SamePixels : Plane → ℕ → ℕ → Progress → Progress → Type 0
 SamePixels p w j d e = (i x : ℕ) → i < side p → x < side p → getD (planeOf p d) (pixelOf p w j i x) 0 ≡ getD (planeOf p e) (pixelOf p w j i x) 0
 
 -- ---- places that read one another only, in one plane: with a macroblock, each that it reads. Only luma reads above right

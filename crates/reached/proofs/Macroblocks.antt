@@ -15,7 +15,7 @@ use Rattle.lists.specs.Lists.{table, rows, turns}
 use Rattle.macroblock.specs.Modes.{modeAt, yModeAt, uvModeAt, bModeAt}
 use Rattle.macroblock.specs.Neighbors.{absent}
 use Rattle.mode_bytes.specs.Says.{yReply, yMode, uvReply, uvMode, bMode}
-use Rattle.record_bytes.specs.Bytes.{within}
+use Rattle.lists.specs.Lists.{within}
 use Rattle.rfc6386.specs.Dct.{pass, column, passes, bySin, byCos, rounded, residue}
 use Rattle.rfc6386.specs.Residue.{sum}
 use Rattle.rfc6386.specs.Edges.{edgeOr, pixelOr, aboveOr, leftOr, vBlock, predictUv}
@@ -26,9 +26,9 @@ use Rattle.reconstruct.specs.Answers.{refusal, partsOf, walkB}
 use Rattle.gathering.specs.Answers.{gathered}
 use Rattle.drawing.specs.Drawn.{modesKnown, modesOf, subModesOf, drawnB, drawnIn, drawn}
 use Rattle.canvas.specs.Placed.{pixelAt, placedRow, placed}
-use Rattle.canvas.specs.Drawn.{made, drawnInto}
+use Rattle.canvas.specs.Into.{made, drawnInto}
 use Rattle.right_pixels.specs.Answers.{lastAbove, rowOk, rightPixels}
-use Rattle.still.specs.Picture.{Canvas, drawnAt, turn, first, picture, rightAt, rightGiven, rightRead}
+use Rattle.still.specs.Picture.{Progress, drawnAt, turn, first, picture, rightAt, rightGiven, rightRead}
 use Rattle.still.specs.Answers.{sizeOk, lengthsOk, stillAnswer, aloneAnswer}
 use Rattle.still_laws.specs.Words.{inY, inU, inV}
 use Rattle.reached.proofs.SubBlocks.{differ-at}
@@ -51,15 +51,15 @@ room at x =
       v = replicate 256 0;
     }
 
-abbrev given : ℕ → ℕ → Canvas
+abbrev given : ℕ → ℕ → Progress
 given at x = stillOf 2 2 (replicate 4 0) (room at x) .0
 
-abbrev alone : ℕ → ℕ → Canvas
+abbrev alone : ℕ → ℕ → Progress
 alone at x = aloneOf 2 2 (room at x) .0
 
 -- of macroblock 1, the first coefficients of luma sub-block 12, of U's block 2 and of V's block 2; the pixel in row 3 and column 15 of macroblock 2's luma, and the
 -- first pixels of macroblock 3's chroma
-abbrev shown : (ℕ → ℕ → Canvas) → ℕ → List ℕ
+abbrev shown : (ℕ → ℕ → Progress) → ℕ → List ℕ
 shown call x = getD (call 608 x .y) 623 0 ∷ getD (call 704 x .u) 136 0 ∷ getD (call 768 x .v) 136 0 ∷ []
 
 abbrev darker : List ℕ
@@ -92,7 +92,7 @@ example-calls at l h j n =
     }
 
 -- ---- the macroblocks at the borders
-module _ (call : ℕ → ℕ → Canvas) (before : shown call 0 ≡ darker) (after : shown call 800 ≡ lighter) where
+module _ (call : ℕ → ℕ → Progress) (before : shown call 0 ≡ darker) (after : shown call 800 ≡ lighter) where
   at : (i : ℕ) → getD (shown call 0) i 0 ≡ getD (shown call 800) i 0 → getD darker i 0 ≡ getD lighter i 0
   at i e = ap (λ (x : List ℕ). getD x i 0) (sym before) ∙ e ∙ ap (λ (x : List ℕ). getD x i 0) after
 

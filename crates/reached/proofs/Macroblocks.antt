@@ -9,19 +9,18 @@ use mathlib.Core.Path.{_≡_, refl, sym, ap, _∙_}
 use mathlib.Core.List.{List, [], _∷_, _++_}
 use native.Mathlib.Omega.{arith}
 use lib.IntN.{ℤ, pos}
-use lib.ListN.{length, getD, replicate, length-append, length-replicate}
+use lib.ListN.{length, getD, take, drop, replicate, length-take, length-drop, length-append, length-replicate}
+use lib.Seq.{getD-take, getD-drop, ext-getD}
 use Rattle.whole.specs.Whole.{wrap, narrow, clampTo}
-use Rattle.lists.specs.Lists.{table, rows, turns}
+use Rattle.lists.specs.Lists.{table, rows, turns, part, within}
 use Rattle.macroblock.specs.Modes.{modeAt, yModeAt, uvModeAt, bModeAt}
-use Rattle.macroblock.specs.Neighbors.{absent}
-use Rattle.mode_bytes.specs.Says.{yReply, yMode, uvReply, uvMode, bMode}
-use Rattle.lists.specs.Lists.{within}
+use Rattle.macroblock.specs.Says.{yReply, yMode, uvReply, uvMode, bMode}
 use Rattle.rfc6386.specs.Dct.{pass, column, passes, bySin, byCos, rounded, residue}
 use Rattle.rfc6386.specs.Residue.{sum}
 use Rattle.rfc6386.specs.Edges.{edgeOr, pixelOr, aboveOr, leftOr, vBlock, predictUv}
-use Rattle.rfc6386.specs.Picture.{aboveOf, leftOf, topLeftOf, aboveRightOf, neighborsOf, placeOk, sizesOk}
+use Rattle.rfc6386.specs.Picture.{pixelOf, rowAbove, leftOf, lumaBeside, chromaBeside, neighborsOf, placeOk, sizeOk, sizesOk}
 use Rattle.rfc6386.specs.Subblock.{subLd, subPixel, predictB}
-use Rattle.rfc6386.specs.Walk.{addedBlocks, plane, uPrediction, vPrediction, uPlane, vPlane, laid, blank, copiedDown, bordered, startOf, aboveIn, leftIn, topLeftIn, subPrediction, subPixels, putBlock, subBlock, walked, lumaOf, yParts}
+use Rattle.rfc6386.specs.Walk.{addedBlocks, plane, uvPrediction, uvPlane, laid, blank, copiedDown, bordered, rowOr, startOf, aboveIn, leftIn, topLeftIn, subPrediction, subPixels, putBlock, subBlock, walked, lumaOf, yParts}
 use Rattle.reconstruct.specs.Answers.{refusal, partsOf, walkB}
 use Rattle.gathering.specs.Answers.{gathered}
 use Rattle.drawing.specs.Drawn.{modesKnown, modesOf, subModesOf, drawnB, drawnIn, drawn}
@@ -29,11 +28,10 @@ use Rattle.canvas.specs.Placed.{pixelAt, placedRow, placed}
 use Rattle.canvas.specs.Into.{made, drawnInto}
 use Rattle.right_pixels.specs.Answers.{lastAbove, rowOk, rightPixels}
 use Rattle.still.specs.Picture.{Progress, drawnAt, turn, first, picture, rightAt, rightGiven, rightRead}
-use Rattle.still.specs.Answers.{sizeOk, lengthsOk, stillAnswer, aloneAnswer}
+use Rattle.still.specs.Answers.{lengthsOk, stillAnswer, aloneAnswer}
 use Rattle.still_laws.specs.Words.{inY, inU, inV}
 use Rattle.reached.proofs.SubBlocks.{differ-at}
 use Rattle.later_laws.specs.Calls.{Given, SameAt, SameBut, SamePixels, stillOf, aloneOf}
-use Rattle.later_laws.proofs.Edges.{part-same}
 
 -- 1,600 coefficients, of which the one at `at` is x and all others 0
 abbrev only : ℕ → ℕ → List ℤ
@@ -69,11 +67,20 @@ abbrev lighter : List ℕ
 lighter = 227 ∷ 227 ∷ 227 ∷ []
 
 pub moved : (shown given 0 ≡ darker) × (shown given 800 ≡ lighter) × (shown alone 0 ≡ darker) × (shown alone 800 ≡ lighter)
-unfolding wrap narrow clampTo table rows turns modeAt yModeAt uvModeAt bModeAt absent yReply yMode uvReply uvMode bMode within pass column passes bySin byCos rounded residue sum
-    edgeOr pixelOr aboveOr leftOr vBlock predictUv aboveOf leftOf topLeftOf aboveRightOf neighborsOf placeOk sizesOk subLd subPixel predictB addedBlocks plane uPrediction vPrediction
-    uPlane vPlane laid blank copiedDown bordered startOf aboveIn leftIn topLeftIn subPrediction subPixels putBlock subBlock walked lumaOf yParts refusal partsOf walkB gathered
+unfolding wrap narrow clampTo table rows turns part modeAt yModeAt uvModeAt bModeAt yReply yMode uvReply uvMode bMode within pass column passes bySin byCos rounded residue sum
+    edgeOr pixelOr aboveOr leftOr vBlock predictUv pixelOf rowAbove leftOf lumaBeside chromaBeside neighborsOf placeOk sizesOk subLd subPixel predictB addedBlocks plane uvPrediction
+    uvPlane laid blank copiedDown bordered rowOr startOf aboveIn leftIn topLeftIn subPrediction subPixels putBlock subBlock walked lumaOf yParts refusal partsOf walkB gathered
     modesKnown modesOf subModesOf drawnB drawnIn drawn pixelAt placedRow placed made drawnInto drawnAt turn first picture rightAt rightGiven sizeOk lengthsOk rightRead lastAbove rowOk rightPixels stillAnswer aloneAnswer
 moved = (refl, refl, refl, refl)
+
+-- a part of both
+part-same : {A : Type 0} (z : A) (l m : List A) (n at : ℕ) → length l ≡ length m → ((i : ℕ) → i < n → getD l (at + i) z ≡ getD m (at + i) z)
+    → take n (drop at l) ≡ take n (drop at m)
+part-same z l m n at e h =
+    ext-getD z (take n (drop at l)) (take n (drop at m)) (simp (length-take, length-drop, e))
+    (λ i k.
+    let b : i < n = omega (arith, length-take n (drop at l)) in
+    getD-take n (drop at l) i z b ∙ getD-drop at l i z ∙ h i b ∙ sym (getD-take n (drop at m) i z b ∙ getD-drop at m i z))
 
 -- ---- the calls
 only-length : (at x : ℕ) → at < 1600 → length (only at x) ≡ 1600

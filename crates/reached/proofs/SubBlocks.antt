@@ -14,18 +14,18 @@ use lib.Dec.{leb, ltb, eqb}
 use lib.IntN.{ℤ, pos}
 use lib.ListN.{length, getD, replicate, length-append, length-replicate}
 use Rattle.whole.specs.Whole.{wrap, narrow, clampTo}
-use Rattle.lists.specs.Lists.{table, rows, turns, pick, both}
+use Rattle.lists.specs.Lists.{table, rows, turns, pick, both, part}
 use Rattle.lists.proofs.Table.{table-at, table-agree}
-use Rattle.macroblock.specs.Neighbors.{absent}
+use Rattle.macroblock.specs.Neighbors.{noLuma, absent}
 use Rattle.macroblock.specs.Reply.{done}
 use Rattle.macroblock.specs.declared.modes.MbModes.{MbModes}
 use Rattle.macroblock.specs.declared.modes.IntraBmode.{IntraBmode}
 use Rattle.macroblock.specs.declared.modes.IntraBmode.the-variants.{He, Ld, Ve}
 use Rattle.rfc6386.specs.Dct.{pass, column, passes, bySin, byCos, rounded, residue}
 use Rattle.rfc6386.specs.Residue.{sum}
-use Rattle.rfc6386.specs.Edges.{edgeOr, pixelOr, aboveOr, leftOr}
+use Rattle.rfc6386.specs.Edges.{edgeOr, pixelOr, leftOr}
 use Rattle.rfc6386.specs.Subblock.{subHe, subVe, subLd, subPixel, predictB}
-use Rattle.rfc6386.specs.Walk.{laid, blank, copiedDown, bordered, startOf, aboveIn, leftIn, topLeftIn, subPrediction, subPixels, putBlock, subBlock, walked, lumaOf, yParts}
+use Rattle.rfc6386.specs.Walk.{laid, blank, copiedDown, bordered, rowOr, startOf, aboveIn, leftIn, topLeftIn, subPrediction, subPixels, putBlock, subBlock, walked, lumaOf, yParts}
 use Rattle.reconstruct.specs.Answers.{partsOf, walkB}
 use Rattle.reconstruct.specs.declared.ReconstructedMb.{ReconstructedMb}
 use Rattle.walker_laws.specs.Around.{placeIn, subOf}
@@ -42,7 +42,7 @@ modesFor k = table 16 (λ j. pick (leb (j / 4) (k / 4)) He (pick (eqb (j % 4) 3)
 
 -- the macroblock without edges
 abbrev drawn : ℕ → ℕ → List ℕ
-drawn k x = yParts (modesFor k) false absent (only k x)
+drawn k x = yParts (modesFor k) false noLuma (only k x)
 
 -- j can be reached from k: it is not untouched
 abbrev reach : ℕ → ℕ → Bool
@@ -58,8 +58,8 @@ moves k =
     table 16 (grown y z)
 
 pub moved : table 16 moves ≡ table 16 (λ k. table 16 (reach k))
-unfolding wrap narrow clampTo table rows turns absent pass column passes bySin byCos rounded residue sum edgeOr pixelOr aboveOr leftOr subHe subVe subLd subPixel predictB
-    laid blank copiedDown bordered startOf aboveIn leftIn topLeftIn subPrediction subPixels putBlock subBlock walked lumaOf yParts
+unfolding wrap narrow clampTo table rows turns part noLuma pass column passes bySin byCos rounded residue sum edgeOr pixelOr leftOr subHe subVe subLd subPixel predictB
+    laid blank copiedDown bordered rowOr startOf aboveIn leftIn topLeftIn subPrediction subPixels putBlock subBlock walked lumaOf yParts
 moved = refl
 
 -- ---- the two calls
@@ -89,7 +89,7 @@ module _ (m : MbModes) (coded : m .skip ≡ false) (k : ℕ) (hk : k < 16) where
   example-calls = (ap (λ (r : ReconstructedMb). r .reply) (call-is 0), ap (λ (r : ReconstructedMb). r .reply) (call-is 800), only-differ k)
 
   call-y : (x : ℕ) → call x .y ≡ drawn k x
-  unfolding partsOf
+  unfolding partsOf absent
   call-y x = ap (λ (r : ReconstructedMb). r .y) (call-is x)
 
   grows : (j : ℕ) → j < 16 → grown (drawn k 0) (drawn k 800) j ≡ reach k j

@@ -1,6 +1,7 @@
 //! The commands. A further one is a file that has a `COMMAND` of its own, its text in `help/`, and its name in `ALL`.
 
 use crate::draw;
+use crate::reach;
 use crate::words::Words;
 use std::ffi::OsString;
 
@@ -14,7 +15,7 @@ pub struct Command {
 }
 
 /// Every command, in the order of the names.
-pub const ALL: &[Command] = &[draw::COMMAND];
+pub const ALL: &[Command] = &[draw::COMMAND, reach::COMMAND];
 
 /// What is said of something done.
 #[derive(Debug, PartialEq, Eq)]

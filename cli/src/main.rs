@@ -17,6 +17,7 @@ mod output;
 mod picture;
 mod png;
 mod progress;
+mod reach;
 mod still_file;
 mod words;
 

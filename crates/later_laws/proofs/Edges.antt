@@ -1,20 +1,18 @@
 -- The edges of the macroblock in row r and column c, in two planes l and m of one length that have the same pixels in the macroblocks that the edges stand in.
 -- Assumes nothing.
 use Prim.Native.Nat.{ℕ, zero, suc, _+_, _-_, _*_, _<_, _≤_}
-use mathlib.Core.Path.{_≡_, refl, sym, ap, _∙_}
-use mathlib.Core.Bool.{Bool, true, false}
+use mathlib.Core.Path.{_≡_, refl, sym, _∙_}
 use mathlib.Core.List.{List}
-use mathlib.Core.Logic.{_⊎_, inl, inr, ⊎-elim}
+use mathlib.Core.Logic.{⊎-elim}
 use native.Mathlib.Nat.{add-mul}
 use native.Mathlib.Omega.{arith}
 use borrow.Author.Tests.{lt-ltb, le-ltb}
-use lib.ListN.{length, getD, take, drop, replicate, length-take, length-drop}
+use lib.ListN.{length, getD, take, drop, length-take, length-drop}
 use lib.Seq.{getD-take, getD-drop, ext-getD}
-use Rattle.lists.specs.Lists.{table}
 use Rattle.lists.proofs.Table.{table-ext}
 use Rattle.rfc6386.specs.Picture.{aboveOf, leftOf, topLeftOf, aboveRightOf}
 use Rattle.canvas.specs.Placed.{pixelAt}
-use Rattle.walker_laws.proofs.Border.{below}
+use Rattle.walker_laws.proofs.Laid.{below}
 
 -- the macroblock in row r and column c has the same pixels in both
 abbrev pub SameBlock : ℕ → ℕ → List ℕ → List ℕ → ℕ → ℕ → Type 0

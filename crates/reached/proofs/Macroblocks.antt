@@ -32,7 +32,7 @@ use Rattle.still.specs.Picture.{Canvas, drawnAt, turn, first, picture, rightAt,
 use Rattle.still.specs.Answers.{sizeOk, lengthsOk, stillAnswer, aloneAnswer}
 use Rattle.still_laws.specs.Words.{inY, inU, inV}
 use Rattle.reached.proofs.SubBlocks.{differ-at}
-use Rattle.later_laws.specs.Calls.{Given, SameAt, SameBut, SamePixels, stillOf, aloneOf}
+use Rattle.later_laws.specs.Calls.{Given, SameBut, SamePixels, stillOf, aloneOf}
 use Rattle.later_laws.proofs.Edges.{part-same}
 
 -- 1,600 coefficients, of which the one at `at` is x and all others 0

@@ -2,6 +2,7 @@
 
 use crate::distance;
 use crate::draw;
+use crate::reach;
 use crate::words::Words;
 use std::ffi::OsString;
 
@@ -15,7 +16,7 @@ pub struct Command {
 }
 
 /// Every command, in the order of the names.
-pub const ALL: &[Command] = &[distance::COMMAND, draw::COMMAND];
+pub const ALL: &[Command] = &[distance::COMMAND, draw::COMMAND, reach::COMMAND];
 
 /// What is said of something done.
 #[derive(Debug, PartialEq, Eq)]

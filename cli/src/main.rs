@@ -21,6 +21,7 @@ mod picture;
 mod png;
 mod png_read;
 mod progress;
+mod reach;
 mod still_file;
 mod words;
 

@@ -21,7 +21,8 @@ use Rattle.still_laws.specs.Words.{Plane, inY, inU, inV, lumaByte, chromaByte, 
 use Rattle.still_laws.proofs.Digits.{rows-rise}
 use Rattle.later_laws.specs.Calls.{Given, SameBut, SameChromaAt, SamePixels, ClosedIn, DrawnTo}
 use Rattle.later_laws.proofs.Chroma.{drawn-chroma}
-use Rattle.later_laws.proofs.Reached.{Steady, AnsweredOf, was-drawn, SameMade, given-made, reached}
+use Rattle.later_laws.proofs.Turns.{Steady, AnsweredOf, was-drawn, SameMade, given-made}
+use Rattle.later_laws.proofs.Reached.{reached}
 
 -- ---- three planes
 u-is-not-y : inU ≡ inY → ⊥

@@ -13,7 +13,7 @@ use Rattle.lists.proofs.Table.{table-ext}
 use Rattle.rfc6386.specs.Picture.{pixelOf, rowAbove, leftOf}
 use Rattle.gathering.proofs.Copied.{pixel-margin, pixel-own, pixel-right}
 use Rattle.canvas.specs.Placed.{pixelAt}
-use Rattle.walker_laws.proofs.Border.{below}
+use Rattle.walker_laws.proofs.Laid.{below}
 
 -- the macroblock in row r and column c has the same pixels in both
 abbrev pub SameBlock : ℕ → ℕ → List ℕ → List ℕ → ℕ → ℕ → Type 0

@@ -23,9 +23,10 @@ use Rattle.still.proofs.Sizes.{size-says, fits}
 use Rattle.still_laws.specs.Words.{Plane, inY, Finished}
 use Rattle.still_laws.proofs.Answered.{accepted-lengths, still-answered, alone-answered}
 use Rattle.later_laws.specs.Calls.{Given, SameBut, SameChromaAt, SamePixels, DrawnTo, FitsStill, FitsAlone, stillOf, aloneOf, stillCount, aloneCount}
-use Rattle.later_laws.proofs.Reached.{AnsweredOf}
+use Rattle.later_laws.proofs.Turns.{AnsweredOf}
 use Rattle.later_laws.proofs.Steady.{given-steady, read-steady}
-use Rattle.later_laws.proofs.Before.{Fitting, same-finished, same-count, counted-part, counted-all}
+use Rattle.later_laws.proofs.Before.{Fitting, same-finished}
+use Rattle.later_laws.proofs.Counted.{same-count, counted-part, counted-all}
 use Rattle.later_laws.proofs.Cones.{luma, chroma, chroma-stays, earlier}
 
 -- ---- `still`
@@ -91,7 +92,7 @@ module _ (w h : ℕ) (right : List ℕ) (k : ℕ) (a b : Given) (only : SameBut 
 
     pub still-counts : stillCount w h right a k ≡ stillCount w h right b k
     still-counts =
-        same-count w h (rightGiven right) a b (still-fitting w h right a fit) (still-fitting w h right b fit2) k inside (λ i m. only i (λ e. omega arith)) (λ z. given-steady w h right)
+        same-count w h (rightGiven right) (λ z. given-steady w h right) a b (still-fitting w h right a fit) (still-fitting w h right b fit2) k inside (λ i m. only i (λ e. omega arith))
 
 -- ---- `still_alone`
 module _ (w h : ℕ) (a : Given) where
@@ -156,4 +157,4 @@ module _ (w h : ℕ) (k : ℕ) (a b : Given) (only : SameBut k a b) (r s : Progr
 
     pub alone-counts : aloneCount w h a k ≡ aloneCount w h b k
     alone-counts =
-        same-count w h (rightRead w h) a b (alone-fitting w h a fit) (alone-fitting w h b fit2) k inside (λ i m. only i (λ e. omega arith)) (read-steady w h)
+        same-count w h (rightRead w h) (read-steady w h) a b (alone-fitting w h a fit) (alone-fitting w h b fit2) k inside (λ i m. only i (λ e. omega arith))

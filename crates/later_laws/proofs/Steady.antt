@@ -1,17 +1,16 @@
 -- The right-hand pixels of a still: given, or four copies of the last pixel of the row above, which is the last macroblock's there.
 -- Assumes nothing.
-use Prim.Native.Nat.{ℕ, suc, _+_, _-_, _*_, _<_, _≤_}
+use Prim.Native.Nat.{ℕ, suc, _-_, _*_, _<_}
 use mathlib.Core.Path.{_≡_, refl, sym, ap, _∙_}
 use mathlib.Core.List.{List}
 use native.Mathlib.Omega.{arith}
-use lib.ListN.{length, getD, replicate}
+use lib.ListN.{replicate}
 use Rattle.picture_limits.proofs.Accepted.{Within}
 use Rattle.right_pixels.specs.Answers.{lastAbove}
-use Rattle.canvas.specs.Placed.{pixelAt}
 use Rattle.still.specs.Picture.{rightGiven, rightRead}
 use Rattle.still_laws.proofs.Alone.{read-later}
 use Rattle.later_laws.proofs.Edges.{SameBlock, last-pixel}
-use Rattle.later_laws.proofs.Reached.{Steady}
+use Rattle.later_laws.proofs.Turns.{Steady}
 
 pub given-steady : (w h : ℕ) (given : List ℕ) → Steady w h (rightGiven given)
 unfolding rightGiven

@@ -6,7 +6,7 @@
 use Prim.Native.Nat.{ℕ, zero, suc, _+_, _-_, _*_, _/_, _%_, _<_}
 use mathlib.Core.Path.{_≡_, refl, sym, ap, _∙_}
 use mathlib.Core.Bool.{Bool, true, false}
-use mathlib.Core.List.{List, [], _∷_, _++_}
+use mathlib.Core.List.{List, _∷_, _++_}
 use mathlib.Core.Logic.{inl, inr, ⊎-elim}
 use native.Mathlib.Omega.{arith}
 use borrow.Author.Tests.{le-leb, eq-eqb, ltb-true}
@@ -30,7 +30,7 @@ use Rattle.reconstruct.specs.Answers.{partsOf, walkB}
 use Rattle.reconstruct.specs.declared.ReconstructedMb.{ReconstructedMb}
 use Rattle.walker_laws.specs.Around.{placeIn, subOf}
 use Rattle.walker_laws.specs.Moves.{Untouched, SameButSub}
-use Rattle.walker_laws.proofs.Border.{below}
+use Rattle.walker_laws.proofs.Laid.{below}
 
 -- 384 coefficients, of which the first of sub-block k is x and all others 0
 abbrev only : ℕ → ℕ → List ℤ

@@ -4,27 +4,25 @@
 --     ruled-agree     the sub-blocks of a closed set
 --     ruled-once      so the rule has one answer only
 -- Assumes nothing.
-use Prim.Native.Nat.{ℕ, zero, suc, _+_, _-_, _*_, _/_, _%_, _<_, _≤_}
+use Prim.Native.Nat.{ℕ, zero, suc, _+_, _*_, _/_, _%_, _<_}
 use mathlib.Core.Path.{_≡_, refl, sym, ap, subst, _∙_}
 use mathlib.Core.Bool.{Bool, true, false}
 use mathlib.Core.List.{List}
-use mathlib.Core.Logic.{_⊎_, inl, inr, ⊎-elim}
+use mathlib.Core.Logic.{⊎-elim}
 use native.Mathlib.Omega.{arith}
 use borrow.Author.Tests.{lt-ltb, le-ltb}
 use lib.IntN.{ℤ}
 use lib.ListN.{length, getD}
 use lib.Seq.{ext-getD}
-use Rattle.lists.specs.Lists.{table}
 use Rattle.lists.proofs.Table.{table-at, table-ext}
 use Rattle.macroblock.specs.declared.modes.IntraBmode.{IntraBmode}
 use Rattle.macroblock.specs.declared.neighbors.LumaEdges.{LumaEdges}
-use Rattle.rfc6386.specs.Dct.{residue}
 use Rattle.rfc6386.specs.Residue.{sum}
 use Rattle.rfc6386.specs.Walk.{blockAt, subPixels}
 use Rattle.rfc6386.proofs.DctBlocks.{residue-ext}
 use Rattle.walker_laws.specs.Around.{around, rowAbove, columnLeft, column, row, aboveSub, leftSub, cornerSub, predictSub, placeIn, subOf, Ruled}
 use Rattle.walker_laws.specs.Moves.{Closed}
-use Rattle.walker_laws.proofs.Border.{below}
+use Rattle.walker_laws.proofs.Laid.{below}
 
 -- ---- the pixels of a sub-block depend on its sixteen coefficients only
 pub pixels-ext : (skip : Bool) (p : List ℕ) (x y : ℕ → ℤ) → ((i : ℕ) → i < 16 → x i ≡ y i) → subPixels skip p x ≡ subPixels skip p y

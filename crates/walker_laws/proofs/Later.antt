@@ -5,11 +5,11 @@
 --     nonB-chroma        the 16x16 modes: chroma is the same where only luma or Y2 coefficients differ
 --     nonB-others        and so is each luma sub-block but k where only the coefficients of Y block k differ
 -- Assumes nothing.
-use Prim.Native.Nat.{ℕ, zero, suc, _+_, _-_, _*_, _/_, _%_, _<_, _≤_}
+use Prim.Native.Nat.{ℕ, zero, suc, _+_, _*_, _/_, _%_, _<_, _≤_}
 use mathlib.Core.Path.{_≡_, refl, sym, ap, _∙_}
 use mathlib.Core.Bool.{Bool, true, false}
 use mathlib.Core.List.{List}
-use mathlib.Core.Logic.{_⊎_, inl, inr, ⊎-elim}
+use mathlib.Core.Logic.{inl, inr, ⊎-elim}
 use native.Mathlib.Omega.{arith}
 use lib.IntN.{ℤ, pos}
 use lib.ListN.{getD, take}
@@ -30,7 +30,7 @@ use Rattle.reconstruct.specs.declared.ReconstructedMb.{ReconstructedMb}
 use Rattle.walker_laws.specs.Around.{subOf}
 use Rattle.walker_laws.specs.Chroma.{lumaOfB, lumaOf16x16, uBlock, vBlock, chromaU, chromaV}
 use Rattle.walker_laws.specs.Moves.{Untouched, UntouchedChroma, Closed, ClosedChroma, SameButSub, SameButLuma, SameButY}
-use Rattle.walker_laws.proofs.Border.{below}
+use Rattle.walker_laws.proofs.Laid.{below}
 use Rattle.walker_laws.proofs.Rule.{walkB-ruled, walkB-chroma-ruled, nonB-chroma-ruled}
 use Rattle.walker_laws.proofs.Agree.{ruled-agree}
 

@@ -4,11 +4,11 @@
 --     walkB-chroma-ruled, nonB-chroma-ruled     chroma by its rule
 --     walkB-near         demand 3 over the rule
 -- Assumes nothing.
-use Prim.Native.Nat.{ℕ, zero, suc, _+_, _-_, _*_, _/_, _%_, _<_, _≤_}
-use mathlib.Core.Path.{_≡_, refl, sym, ap, subst, _∙_}
+use Prim.Native.Nat.{ℕ, zero, suc, _+_, _*_, _/_, _%_, _<_, _≤_}
+use mathlib.Core.Path.{_≡_, sym, ap, subst, _∙_}
 use mathlib.Core.Bool.{Bool, true, false}
 use mathlib.Core.List.{List}
-use mathlib.Core.Logic.{_⊎_, inl, inr, ⊎-elim}
+use mathlib.Core.Logic.{inl, inr, ⊎-elim}
 use native.Mathlib.Omega.{arith}
 use lib.IntN.{ℤ, pos}
 use lib.ListN.{length, getD}
@@ -22,7 +22,6 @@ use Rattle.macroblock.specs.declared.modes.IntraUvMode.{IntraUvMode}
 use Rattle.macroblock.specs.declared.modes.MbModes.{MbModes}
 use Rattle.macroblock.specs.declared.neighbors.LumaEdges.{LumaEdges}
 use Rattle.macroblock.specs.declared.neighbors.MbNeighbors.{MbNeighbors}
-use Rattle.rfc6386.specs.Subblock.{predictB}
 use Rattle.rfc6386.specs.Walk.{blockAt, startOf, cornerOf, aboveIn, leftIn, topLeftIn, subPrediction, subPixels, walked, yParts, uvPrediction, uvPlane}
 use Rattle.rfc6386.proofs.Parts.{parts-at}
 use Rattle.rfc6386.proofs.Planes.{plane-ext}
@@ -34,7 +33,7 @@ use Rattle.reconstruct.proofs.Replies.{nonB-accepted, walkB-accepted}
 use Rattle.reconstruct.proofs.Demand3.{Blocks8191, Near, walkB-y}
 use Rattle.walker_laws.specs.Around.{around, rowAbove, columnLeft, column, row, aboveSub, leftSub, cornerSub, predictSub, placeIn, subOf, Ruled}
 use Rattle.walker_laws.specs.Chroma.{lumaOfB, lumaOf16x16, uBlock, vBlock, chromaU, chromaV}
-use Rattle.walker_laws.proofs.Border.{below}
+use Rattle.walker_laws.proofs.Laid.{below}
 use Rattle.walker_laws.proofs.Shown.{Ready, shown}
 
 -- ---- what the sub-block in row a and column b reads, at row r and column c, is ready

@@ -18,7 +18,7 @@ use Rattle.macroblock.specs.declared.neighbors.LumaEdges.{LumaEdges}
 use Rattle.rfc6386.specs.Walk.{blockAt, startOf, cornerOf, subPrediction, subPixels, subBlock, walked, yParts}
 use Rattle.rfc6386.proofs.Parts.{pixelAt, put-outside, walked-stays, start-length, parts-at}
 use Rattle.walker_laws.specs.Around.{around}
-use Rattle.walker_laws.proofs.Border.{below, Border, start-border}
+use Rattle.walker_laws.proofs.Border.{Border, start-border}
 
 -- a row and a column of 21 say the place
 row-of-21 : (a b x y : ℕ) → x < 21 → y < 21 → 21 * a + x ≡ 21 * b + y → (a ≡ b) × (x ≡ y)

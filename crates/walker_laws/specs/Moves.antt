@@ -12,7 +12,7 @@
 --        . . . . # x x x
 --        . . . . x x x x        . untouched: above #, and in every column to its left
 --        . . . . x x x x
-use Prim.Native.Nat.{ℕ, suc, _+_, _-_, _*_, _/_, _%_, _<_, _≤_}
+use Prim.Native.Nat.{ℕ, suc, _+_, _-_, _/_, _<_, _≤_}
 use mathlib.Core.Path.{_≡_}
 use mathlib.Core.List.{List}
 use mathlib.Core.Logic.{_⊎_}

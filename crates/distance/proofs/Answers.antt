@@ -12,7 +12,7 @@ use lib.ListN.{length}
 use Rattle.macroblock.specs.Reply.{wrongLength}
 use Rattle.plane_distance.specs.Apart.{noDistance}
 use Rattle.plane_distance.specs.declared.Distance.{Distance}
-use Rattle.distance.specs.Words.{_beside_}
+use Rattle.lists.specs.Lists.{_beside_}
 use Rattle.distance.specs.Stills.{reportOf, reported, summed}
 use Rattle.distance.specs.Answer.{refusal, distanceAnswer}
 

@@ -9,7 +9,8 @@ use mathlib.Core.Path.{_≡_}
 use native.Mathlib.Omega.{arith}
 use lib.ListN.{length}
 use Rattle.plane_distance.specs.Apart.{apartAt, distanceFrom}
-use Rattle.plane_distance.proofs.Totals.{total-≤, largest-≤}
+use Rattle.lists.proofs.Total.{total-≤}
+use Rattle.plane_distance.proofs.Totals.{largest-≤}
 use Rattle.plane_distance.proofs.Pixels.{Bytes, apart-≤}
 use Rattle.plane_distance.proofs.Parts.{equal-≤, squares-≤}
 use Rattle.distance.specs.Stills.{pixelsOf, startOf, stillAt, summed}

@@ -7,13 +7,13 @@ use native.Mathlib.Omega.{arith}
 use borrow.Author.Tests.{eq-eqb}
 use lib.Dec.{eqb, eqb→eq}
 use lib.ListN.{length, getD}
-use Rattle.lists.specs.Lists.{pick, both}
+use Rattle.lists.specs.Lists.{pick, both, total, joined}
 use Rattle.lists.proofs.Tests.{same-test, true-T}
-use Rattle.plane_distance.specs.Sums.{total, largest}
+use Rattle.plane_distance.specs.Sums.{largest}
 use Rattle.plane_distance.specs.Apart.{apart, apartAt, squareAt, sameAt, distanceFrom}
 use Rattle.plane_distance.specs.declared.Distance.{Distance}
-use Rattle.plane_distance.proofs.Totals.{total-ext, largest-ext}
-use Rattle.distance.specs.Words.{joined}
+use Rattle.lists.proofs.Total.{total-ext}
+use Rattle.plane_distance.proofs.Totals.{largest-ext}
 use Rattle.distance.specs.Stills.{pixelsOf, startOf, reportOf, stillAt, reported, summed}
 use Rattle.distance.specs.Answer.{lengthsOk, refusal, distanceAnswer}
 

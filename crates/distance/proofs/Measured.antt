@@ -19,14 +19,14 @@ use borrow.Author.Tests.{eq-eqb, eqb-true, eqb-false}
 use lib.Dec.{eqb}
 use lib.ListN.{length, getD, List·getD-append}
 use lib.Seq.{getD-append-add}
-use Rattle.lists.specs.Lists.{pick}
+use Rattle.lists.specs.Lists.{pick, total, _beside_, joined}
 use Rattle.macroblock.specs.Reply.{done, wrongLength}
-use Rattle.plane_distance.specs.Sums.{total, largest}
+use Rattle.plane_distance.specs.Sums.{largest}
 use Rattle.plane_distance.specs.Apart.{apartAt, squareAt, sameAt, distanceFrom, noDistance}
 use Rattle.plane_distance.specs.declared.Distance.{Distance}
-use Rattle.plane_distance.proofs.Totals.{total-ext, largest-ext, total-at, largest-≤, total-all}
+use Rattle.lists.proofs.Total.{total-ext}
+use Rattle.plane_distance.proofs.Totals.{largest-ext, total-at, largest-≤, total-all}
 use Rattle.plane_distance.proofs.Pixels.{Bytes, square-none, apart-equal, square-equal, same-equal}
-use Rattle.distance.specs.Words.{_beside_, joined}
 use Rattle.distance.specs.Stills.{pixelsOf, startOf, reportOf, stillAt, reported, summed}
 use Rattle.distance.specs.Answer.{sidesOk, lengthsOk, refusal, distanceAnswer, Accepted}
 use Rattle.distance.proofs.Sizes.{accepted, lengths-say}

@@ -8,10 +8,12 @@ use native.Mathlib.Omega.{arith}
 use borrow.Author.Tests.{eq-eqb, le-leb}
 use lib.ListN.{length, getD, take, drop, length-drop}
 use lib.Seq.{length-take-le, getD-take, getD-drop}
-use Rattle.plane_distance.specs.Sums.{total, largest}
+use Rattle.lists.specs.Lists.{total}
+use Rattle.plane_distance.specs.Sums.{largest}
 use Rattle.plane_distance.specs.Apart.{apart, apartAt, squareAt, sameAt, distanceFrom, comparable, planeDistance}
 use Rattle.plane_distance.specs.declared.Distance.{Distance}
-use Rattle.plane_distance.proofs.Totals.{total-ext, largest-ext}
+use Rattle.lists.proofs.Total.{total-ext}
+use Rattle.plane_distance.proofs.Totals.{largest-ext}
 use Rattle.distance.specs.Stills.{pixelsOf, startOf, stillAt}
 
 module _ (at n : ℕ) (l : List ℕ) (h : at + n ≤ length l) where

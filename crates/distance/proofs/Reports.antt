@@ -13,12 +13,11 @@ use native.Mathlib.Omega.{arith}
 use borrow.Rule.Slice.PartMut.{putMid}
 use lib.ListN.{length, set, take, drop, length-append}
 use lib.Seq.{take-at, drop-at, drop-drop, drop-length}
-use Rattle.lists.specs.Lists.{turns}
+use Rattle.lists.specs.Lists.{turns, total, joined}
 use Rattle.lists.proofs.Turns.{turns-step}
-use Rattle.plane_distance.specs.Sums.{total, largest}
+use Rattle.plane_distance.specs.Sums.{largest}
 use Rattle.plane_distance.specs.Apart.{noDistance, together}
 use Rattle.plane_distance.specs.declared.Distance.{Distance}
-use Rattle.distance.specs.Words.{joined}
 use Rattle.distance.specs.Stills.{reportOf, putReport, stillAt, reported, summed}
 
 pub three : (l : List ℕ) (a b c : ℕ) → length l ≡ 3 → set (set (set l 0 a) 1 b) 2 c ≡ a ∷ b ∷ c ∷ []

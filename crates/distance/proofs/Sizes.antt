@@ -10,11 +10,10 @@ use native.Mathlib.Omega.{arith}
 use borrow.Author.Tests.{lt-ltb, le-leb, le-ltb, leb-true, eq-eqb, ne-eqb, eqb-true, ltb-true, ltb-false}
 use lib.Dec.{eqb, leb, ltb}
 use lib.ListN.{length, getD, set}
-use Rattle.lists.specs.Lists.{pick, both}
+use Rattle.lists.specs.Lists.{pick, both, total}
 use Rattle.lists.proofs.Tests.{left-holds, right-holds}
 use Rattle.macroblock.specs.Reply.{done, wrongLength, outsidePicture}
-use Rattle.plane_distance.specs.Sums.{total}
-use Rattle.plane_distance.proofs.Totals.{total-turn, total-≤, total-add}
+use Rattle.lists.proofs.Total.{total-turn, total-≤, total-add}
 use Rattle.distance.specs.Stills.{pixelsOf, startOf}
 use Rattle.distance.specs.Answer.{tooMany, sideOk, sidesOk, lengthsOk, refusal, Accepted, Plane}
 

@@ -8,10 +8,9 @@ use mathlib.Core.Path.{_≡_}
 use mathlib.Core.List.{List, [], _∷_}
 use lib.Dec.{eqb, leb, ltb}
 use lib.ListN.{length, getD}
-use Rattle.lists.specs.Lists.{pick, both}
+use Rattle.lists.specs.Lists.{pick, both, _beside_}
 use Rattle.macroblock.specs.Reply.{done, wrongLength, outsidePicture}
 use Rattle.plane_distance.specs.Apart.{noDistance}
-use Rattle.distance.specs.Words.{_beside_}
 use Rattle.distance.specs.Stills.{startOf, reportOf, reported, summed}
 
 abbrev pub tooMany : ℕ

@@ -1,4 +1,3 @@
 -- A list of stills, and how far each is from its measurement.
-pub mod Words
 pub mod Stills
 pub mod Answer

@@ -8,10 +8,10 @@ use Prim.Native.Nat.{ℕ, _+_, _*_, _/_}
 use mathlib.Core.List.{List, [], _∷_}
 use borrow.Rule.Slice.PartMut.{putMid}
 use lib.ListN.{length, getD}
-use Rattle.plane_distance.specs.Sums.{total, largest}
+use Rattle.lists.specs.Lists.{total, joined}
+use Rattle.plane_distance.specs.Sums.{largest}
 use Rattle.plane_distance.specs.Apart.{distanceFrom}
 use Rattle.plane_distance.specs.declared.Distance.{Distance}
-use Rattle.distance.specs.Words.{joined}
 
 unfoldable pub reportOf : Distance → List ℕ
 reportOf d = d .squares ∷ d .largest ∷ d .equal ∷ []

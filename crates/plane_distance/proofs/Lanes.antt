@@ -10,13 +10,14 @@ use native.Mathlib.Nat.{mul-one}
 use native.Mathlib.Omega.{arith}
 use lib.Dec.{eqb, lit<}
 use lib.ListN.{getD, length}
-use Rattle.lists.specs.Lists.{table, pick}
+use Rattle.lists.specs.Lists.{table, pick, total}
 use Rattle.lists.proofs.Table.{table-length, table-at, table-ext}
 use Rattle.lists.proofs.Each.{each-all}
-use Rattle.plane_distance.specs.Sums.{total, largest}
+use Rattle.plane_distance.specs.Sums.{largest}
 use Rattle.plane_distance.specs.Apart.{apartAt, squareAt, sameAt, distanceFrom, raised, counted}
 use Rattle.plane_distance.specs.declared.Distance.{Distance}
-use Rattle.plane_distance.proofs.Totals.{total-turn, largest-turn, total-≤, total-ext, largest-ext, total-add, total-lanes, largest-lanes}
+use Rattle.lists.proofs.Total.{total-turn, total-≤, total-ext, total-add}
+use Rattle.plane_distance.proofs.Totals.{largest-turn, largest-ext, total-lanes, largest-lanes}
 use Rattle.plane_distance.proofs.Pixels.{Bytes, same-apart, same-≤, square-≤}
 
 module _ (a b : List ℕ) (at : ℕ) where

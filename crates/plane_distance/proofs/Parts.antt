@@ -7,12 +7,13 @@ use native.Mathlib.Nat.{zero-add, mul-one}
 use native.Mathlib.Omega.{arith}
 use borrow.Author.Tests.{eq-eqb, ne-eqb, eqb-true, leb-true}
 use lib.Dec.{eqb, leb}
-use Rattle.lists.specs.Lists.{both}
+use Rattle.lists.specs.Lists.{both, total}
 use Rattle.lists.proofs.Tests.{left-holds, right-holds}
-use Rattle.plane_distance.specs.Sums.{total, largest}
+use Rattle.plane_distance.specs.Sums.{largest}
 use Rattle.plane_distance.specs.Apart.{apartAt, squareAt, sameAt, distanceFrom, together, comparable}
 use Rattle.plane_distance.specs.declared.Distance.{Distance}
-use Rattle.plane_distance.proofs.Totals.{total-≤, total-ext, largest-ext, total-add, largest-add}
+use Rattle.lists.proofs.Total.{total-≤, total-ext, total-add}
+use Rattle.plane_distance.proofs.Totals.{largest-ext, largest-add}
 use Rattle.plane_distance.proofs.Pixels.{Bytes, same-≤, square-≤}
 
 -- ---- the first m pixels, then n more

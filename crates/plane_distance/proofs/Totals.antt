@@ -1,8 +1,8 @@
--- Laws of `total` and `largest`.
---     total-turn, largest-turn      a loop that takes f i at turn i
---     total-≤, largest-≤            how far they grow; largest-at, total-at, that each number is at most as large
---     total-ext, largest-ext        rules that agree
---     total-add, largest-add        in two parts
+-- Laws of `total` and `largest`, beside those of `lists`.
+--     largest-turn                  a loop that takes f i at turn i
+--     largest-≤                     how far it grows; largest-at, total-at, that each number is at most as large
+--     largest-ext                   rules that agree
+--     largest-add                   in two parts
 --     total-all                     every number the same
 --     total-lanes, largest-lanes    lane by lane: w lanes of h, number j of lane k being number w j + k of all
 -- Assumes nothing.
@@ -12,23 +12,16 @@ use Prim.Native.Nat.{ℕ, zero, suc, _+_, _*_, _/_, _%_, _<_, _≤_, max}
 use native.Mathlib.Nat.{add-zero, add-suc, suc-mul, mul-suc, zero-mul, mul-zero, mul-comm, le-antisymm, eq-or-lt-of-le, le-of-suc-le-suc, mul-le-mul-left, div-add-mod, mod-lt, div-lt-iff-lt-mul}
 use native.Mathlib.Numerals.{add-one}
 use native.Mathlib.Omega.{arith}
-use Rattle.plane_distance.specs.Sums.{total, largest}
+use Rattle.lists.specs.Lists.{total}
+use Rattle.lists.proofs.Total.{total-add}
+use Rattle.plane_distance.specs.Sums.{largest}
 
 -- ---- a turn
-pub total-turn : (i : ℕ) (f : ℕ → ℕ) (s v : ℕ) → s ≡ total i f → v ≡ f i → s + v ≡ total (i + 1) f
-unfolding total
-total-turn i f s v e h = rw (add-one, e, h)
-
 pub largest-turn : (i : ℕ) (f : ℕ → ℕ) (s v : ℕ) → s ≡ largest i f → v ≡ f i → max s v ≡ largest (i + 1) f
 unfolding largest
 largest-turn i f s v e h = rw (add-one, e, h)
 
 -- ---- bounds
-pub total-≤ : (m n : ℕ) (f : ℕ → ℕ) → ((i : ℕ) → i < n → f i ≤ m) → total n f ≤ n * m
-unfolding total
-total-≤ m zero f h = omega arith
-total-≤ m (suc n) f h = omega (arith, total-≤ m n f (λ i l. h i (omega arith)), h n (omega arith), suc-mul n m)
-
 pub total-at : (n : ℕ) (f : ℕ → ℕ) (i : ℕ) → i < n → f i ≤ total n f
 unfolding total
 total-at zero f i l = absurd (omega (arith, l))
@@ -47,22 +40,12 @@ largest-at (suc n) f i l =
     ⊎-elim (λ e. rw e (omega arith)) (λ k. omega (arith, largest-at n f i k)) (eq-or-lt-of-le (le-of-suc-le-suc l))
 
 -- ---- rules that agree
-pub total-ext : (n : ℕ) (f g : ℕ → ℕ) → ((i : ℕ) → i < n → f i ≡ g i) → total n f ≡ total n g
-unfolding total
-total-ext zero f g h = refl
-total-ext (suc n) f g h = rw (total-ext n f g (λ i l. h i (omega arith)), h n (omega arith))
-
 pub largest-ext : (n : ℕ) (f g : ℕ → ℕ) → ((i : ℕ) → i < n → f i ≡ g i) → largest n f ≡ largest n g
 unfolding largest
 largest-ext zero f g h = refl
 largest-ext (suc n) f g h = rw (largest-ext n f g (λ i l. h i (omega arith)), h n (omega arith))
 
 -- ---- the first m, then n more
-pub total-add : (m n : ℕ) (f : ℕ → ℕ) → total (m + n) f ≡ total m f + total n (λ k. f (m + k))
-unfolding total
-total-add m zero f = rw add-zero (omega arith)
-total-add m (suc n) f = rw add-suc (omega (arith, total-add m n f))
-
 pub largest-add : (m n : ℕ) (f : ℕ → ℕ) → largest (m + n) f ≡ max (largest m f) (largest n (λ k. f (m + k)))
 unfolding largest
 largest-add m zero f = rw add-zero (omega arith)

@@ -9,8 +9,8 @@ use mathlib.Core.Bool.{Bool}
 use mathlib.Core.List.{List}
 use lib.Dec.{eqb, leb}
 use lib.ListN.{length, getD, set}
-use Rattle.lists.specs.Lists.{turns, pick, both}
-use Rattle.plane_distance.specs.Sums.{total, largest}
+use Rattle.lists.specs.Lists.{turns, pick, both, total}
+use Rattle.plane_distance.specs.Sums.{largest}
 use Rattle.plane_distance.specs.declared.Distance.{Distance}
 
 -- `-` is 0 below 0, so that one of the two is 0

@@ -11,8 +11,8 @@ ghost use mathlib.Core.Bool.{true};
 ghost use Prim.Native.Nat.{ℕ, _+_, _*_, _<_, _≤_, max, min};
 ghost use lib.Dec.{eqb};
 ghost use lib.ListN.{length, getD, replicate};
-ghost use Rattle.lists.specs.Lists.{table, pick};
-ghost use Rattle.plane_distance.specs.Sums.{total, largest};
+ghost use Rattle.lists.specs.Lists.{table, pick, total};
+ghost use Rattle.plane_distance.specs.Sums.{largest};
 ghost use Rattle.plane_distance.specs.Apart.{apart, apartAt, raised, counted, distanceFrom, together, comparable, noDistance, planeDistance};
 
 pub struct Distance {

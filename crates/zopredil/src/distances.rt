@@ -1,6 +1,6 @@
 // How far drawn stills are from measured ones.
 ghost use mathlib.Core.Path.{_≡_};
-ghost use Rattle.distance.specs.Words.{_beside_};
+ghost use Rattle.lists.specs.Lists.{_beside_};
 ghost use Rattle.distance.specs.Answer.{distanceAnswer};
 
 #[no_mangle]

@@ -4,7 +4,8 @@ use mathlib.Core.Path.{_≡_, refl, sym, ap, _∙_}
 use native.Mathlib.Omega.{arith}
 use borrow.Author.Needs.{needs}
 use lib.ListN.{length}
-use Rattle.plane_distance.specs.Sums.{total, largest}
+use Rattle.lists.specs.Lists.{total}
+use Rattle.plane_distance.specs.Sums.{largest}
 use Rattle.plane_distance.specs.Apart.{distanceFrom}
 use Rattle.plane_distance.specs.declared.Distance.{Distance}
 use Rattle.plane_distance.proofs.Pixels.{Bytes}

@@ -4,8 +4,8 @@ use mathlib.Core.Path.{_≡_, refl}
 use native.Mathlib.Omega.{arith}
 use borrow.Author.Needs.{needs}
 use lib.ListN.{getD}
-use Rattle.plane_distance.specs.Sums.{total}
-use Rattle.plane_distance.proofs.Totals.{total-turn}
+use Rattle.lists.specs.Lists.{total}
+use Rattle.lists.proofs.Total.{total-turn}
 use Rattle.plane_distance.proofs.squares.Statement.{statement}
 use Rattle.plane_distance.proofs.squares.Tie as tie
 

@@ -4,9 +4,8 @@ use mathlib.Core.Path.{_≡_, refl, sym, _∙_}
 use native.Mathlib.Omega.{arith}
 use borrow.Author.Needs.{needs}
 use lib.ListN.{getD}
-use Rattle.lists.specs.Lists.{table}
+use Rattle.lists.specs.Lists.{table, total}
 use Rattle.lists.proofs.Table.{table-same}
-use Rattle.plane_distance.specs.Sums.{total}
 use Rattle.plane_distance.specs.Apart.{squareAt}
 use Rattle.plane_distance.proofs.Pixels.{Bytes}
 use Rattle.plane_distance.proofs.Lanes.{

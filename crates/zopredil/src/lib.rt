@@ -11,6 +11,8 @@ ghost use Rattle.shelf.specs.Shelf.{bytesAnswer};
 ghost use Rattle.still_numbers.specs.Numbers.{stillNumber, aloneNumber};
 ghost use Rattle.mb_quantiser.specs.Answers.{slicesAnswer};
 
+mod partition;
+
 #[no_mangle]
 pub extern "C" fn zopredil_y1_factors(yac_qi: i32, ydc_delta: i32, out: &mut [i16]) -> u32
     ensures { λ r. ⌜ (r beside now (out .exit)) ≡ factorsAnswer «yac_qi» «ydc_delta» (now (out .entry)) ⌝ }

@@ -1,0 +1,246 @@
+// The tokens of one macroblock: RFC 6386, section 13, with the contexts from above and from the left.
+//
+//     block  0    1 .. 16   17 .. 20   21 .. 24        its coefficients stand from 16 times its number on
+//     plane  Y2   Y         U          V
+//     flag   8    0 .. 3    4, 5       6, 7            nine flags each way
+mod block;
+mod tree;
+
+use block::band;
+use block::decode_block;
+use bool_decoder::BoolDecoder;
+use bool_decoder::BoolState;
+use bool_decoder::after_one;
+use bool_decoder::after_zero;
+use bool_decoder::is_one;
+use bool_decoder::ready;
+use bool_decoder::resume;
+use bool_decoder::save;
+use bool_decoder::stands;
+
+pub struct Macroblock {
+    pub reply: u32,
+    pub coeffs: [i16; 400],
+    pub above: [bool; 9],
+    pub left: [bool; 9],
+    pub state: BoolState,
+}
+
+fn above_slot(n: usize) -> usize {
+    match n {
+        0 => 8,
+        1 => 0,
+        2 => 1,
+        3 => 2,
+        4 => 3,
+        5 => 0,
+        6 => 1,
+        7 => 2,
+        8 => 3,
+        9 => 0,
+        10 => 1,
+        11 => 2,
+        12 => 3,
+        13 => 0,
+        14 => 1,
+        15 => 2,
+        16 => 3,
+        17 => 4,
+        18 => 5,
+        19 => 4,
+        20 => 5,
+        21 => 6,
+        22 => 7,
+        23 => 6,
+        _ => 7,
+    }
+}
+
+fn left_slot(n: usize) -> usize {
+    match n {
+        0 => 8,
+        1 => 0,
+        2 => 0,
+        3 => 0,
+        4 => 0,
+        5 => 1,
+        6 => 1,
+        7 => 1,
+        8 => 1,
+        9 => 2,
+        10 => 2,
+        11 => 2,
+        12 => 2,
+        13 => 3,
+        14 => 3,
+        15 => 3,
+        16 => 3,
+        17 => 4,
+        18 => 4,
+        19 => 5,
+        20 => 5,
+        21 => 6,
+        22 => 6,
+        23 => 7,
+        _ => 7,
+    }
+}
+
+// Where the probabilities of a block's plane start, of 264 a plane: Y after Y2, Y2, U and V, Y without Y2.
+fn base_of(n: usize, y2: bool) -> usize {
+    if n == 0 {
+        return 264;
+    }
+    if n < 17 {
+        if y2 { 0 } else { 792 }
+    } else {
+        528
+    }
+}
+
+fn first_of(n: usize, y2: bool) -> usize {
+    if n == 0 {
+        return 0;
+    }
+    if n < 17 {
+        if y2 { 1 } else { 0 }
+    } else {
+        0
+    }
+}
+
+// Eleven probabilities for each neighbour that has coefficients.
+fn class_of(a: bool, b: bool) -> usize {
+    if a {
+        if b { 22 } else { 11 }
+    } else {
+        if b { 11 } else { 0 }
+    }
+}
+
+// A block's flag: by the Rust's rule whether some coefficient is not 0, by the decoders' whether it has a token before its end.
+fn flag_of(by_token: bool, some: bool) -> bool {
+    if by_token { true } else { some }
+}
+
+// Block n, with its two contexts. Node 0 of its first token is read here, since most blocks are empty.
+fn one_block(
+    src: &[u8],
+    probs: &[u8],
+    by_token: bool,
+    y2: bool,
+    n: usize,
+    d: BoolDecoder,
+    above: &mut [bool; 9],
+    left: &mut [bool; 9],
+    out: &mut [i16; 400],
+) -> BoolDecoder {
+    let a = above_slot(n);
+    let l = left_slot(n);
+    let base = base_of(n, y2);
+    let first = first_of(n, y2);
+    let row = base + band(first) + class_of(above[a], left[l]);
+    let e = ready(src, d);
+    let p = probs[row];
+    if is_one(p, e) {
+        let b = decode_block(src, probs, base, row, 16 * n, first, after_one(p, e), out);
+        let f = flag_of(by_token, b.some);
+        above[a] = f;
+        left[l] = f;
+        b.next
+    } else {
+        above[a] = false;
+        left[l] = false;
+        after_zero(p, e)
+    }
+}
+
+fn first_block(y2: bool) -> usize {
+    if y2 { 0 } else { 1 }
+}
+
+// The blocks of a macroblock: Y2 where there is one, sixteen Y, four U, four V.
+fn all_blocks(
+    src: &[u8],
+    probs: &[u8],
+    by_token: bool,
+    y2: bool,
+    d: BoolDecoder,
+    above: &mut [bool; 9],
+    left: &mut [bool; 9],
+    out: &mut [i16; 400],
+) -> BoolDecoder {
+    let mut e = d;
+    let mut n = first_block(y2);
+    while n < 25 {
+        e = one_block(src, probs, by_token, y2, n, e, above, left, out);
+        n += 1;
+    }
+    e
+}
+
+fn blank() -> [i16; 400] {
+    [0i16; 400]
+}
+
+fn refusal(reply: u32, above: [bool; 9], left: [bool; 9], s: BoolState) -> Macroblock {
+    let zeros = blank();
+    Macroblock {
+        reply: reply,
+        coeffs: zeros,
+        above: above,
+        left: left,
+        state: s,
+    }
+}
+
+// The walk itself, for any probabilities.
+fn walk(
+    src: &[u8],
+    probs: &[u8],
+    by_token: bool,
+    y2: bool,
+    above: [bool; 9],
+    left: [bool; 9],
+    s: BoolState,
+) -> Macroblock {
+    let mut a = above;
+    let mut l = left;
+    let mut out = blank();
+    let d = resume(s);
+    let e = all_blocks(src, probs, by_token, y2, d, &mut a, &mut l, &mut out);
+    let after = save(src, e);
+    if (src.len() as u64) < after.at {
+        return refusal(9, above, left, s);
+    }
+    Macroblock {
+        reply: 0,
+        coeffs: out,
+        above: a,
+        left: l,
+        state: after,
+    }
+}
+
+// The tokens of one macroblock with the Rust's rule for its flags; `y2`: it has a Y2 block. Replies: 1 for other than 1,056
+// probabilities, 10 when one is 0, 9 when the decoder needs a byte past the end or its state is none of this partition's; all
+// coefficients are then 0, and contexts and state as they came in.
+pub fn decode_macroblock(
+    src: &[u8],
+    probs: &[u8],
+    y2: bool,
+    above: [bool; 9],
+    left: [bool; 9],
+    s: BoolState,
+) -> Macroblock {
+    if probs.len() != 1056 {
+        return refusal(1, above, left, s);
+    }
+    if token_probs::no_zero(probs) {
+        if stands(src, s) {
+            return walk(src, probs, false, y2, above, left, s);
+        }
+        return refusal(9, above, left, s);
+    }
+    refusal(10, above, left, s)
+}

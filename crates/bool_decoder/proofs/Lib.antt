@@ -4,3 +4,4 @@ pub mod Shift
 pub mod Load
 pub mod Four
 pub mod Step
+pub mod States

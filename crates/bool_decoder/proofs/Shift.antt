@@ -100,6 +100,10 @@ module _ (src : List ℕ) (v r p h s : ℕ) (room : 8 + s ≤ h) (few : h ≤ 64
       = omega (arith, bits-split src (p + 8) s m, add-mul (v * 2 ^ s) (bits src (p + 8) s) (2 ^ m)) in
       ap (λ (i : ℕ). v * 2 ^ i + bits src (p + 8) i) e ∙ b
 
+  pub ahead-parts : ahead src (coder v r p) (h - 8) ≡ (v * 2 ^ s + bits src (p + 8) s) * 2 ^ (h - s - 8) + bits src (p + 8 + s) (h - s - 8)
+  unfolding n y
+  ahead-parts = ahead-split
+
   top-power : 2 ^ (64 - h) * 2 ^ s ≡ 2 ^ k
   unfolding k
   top-power = let e : 64 - h + s ≡ 64 - (h - s) = omega arith in sym (pow-add 2 (64 - h) s) ∙ ap (λ (i : ℕ). 2 ^ i) e

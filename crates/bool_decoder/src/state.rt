@@ -1,12 +1,10 @@
 // The decoder between two calls, as RFC 6386, 7.3, keeps it: the place of the next byte, the range, two bytes of value, and
 // how many bits were shifted out of them since the last byte was loaded.
 use crate::BoolDecoder;
+use crate::byte_or_none;
 use crate::ready;
 ghost use mathlib.Core.Path.{_≡_};
-ghost use mathlib.Core.Bool.{_&&_};
-ghost use Prim.Native.Nat.{_*_, _%_, _^_, _<_};
-ghost use lib.Dec.{leb};
-ghost use lib.ListN.{getD};
+ghost use Prim.Native.Nat.{_*_, _%_, _^_};
 ghost use Rattle.bool_decoder.specs.BoolCoder.{opened};
 ghost use Rattle.bool_decoder.specs.State.{stateOf, standsOf, inRange, Resumes, Saves};
 
@@ -17,18 +15,12 @@ pub struct BoolState {
     pub bit_count: u64,
 }
 
-fn byte_at(src: &[u8], at: usize) -> u64
-    ensures { λ r. ⌜ (r ≡ getD (now (src .entry)) at 0) × (r < 256) ⌝ }
-{
-    if at < src.len() { src[at] as u64 } else { 0 }
-}
-
 // The start of a partition.
 pub fn begin(src: &[u8]) -> BoolState
     ensures { λ r. ⌜ r ≡ stateOf (now (src .entry)) (opened (now (src .entry))) ⌝ }
 {
-    let high = byte_at(src, 0);
-    let low = byte_at(src, 1);
+    let high = byte_or_none(src, 0);
+    let low = byte_or_none(src, 1);
     BoolState {
         at: 2,
         range: 255,
@@ -61,8 +53,8 @@ pub fn stands(src: &[u8], s: BoolState) -> bool
     if end < s.at {
         return false;
     }
-    let first = byte_at(src, 0);
-    let last = byte_at(src, (s.at as usize) - 1);
+    let first = byte_or_none(src, 0);
+    let last = byte_or_none(src, (s.at as usize) - 1);
     let low = shown(last, s.bit_count);
     in_range(s) & (s.value % 256 == low) & ((s.value / 256 < s.range) | (first == 255))
 }

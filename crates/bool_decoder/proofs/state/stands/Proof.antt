@@ -1,53 +1,31 @@
 use borrow.Author.Needs.{needs}
+use borrow.Author.Tests.{lt-ltb, le-ltb}
+use Rattle.bool_decoder.specs.State.{standsOf}
 use Rattle.bool_decoder.proofs.state.stands.Statement.{statement}
 use Rattle.bool_decoder.proofs.state.stands.Tie as tie
-use Rattle.bool_decoder.proofs.state.stands.Reads as reads
-use Rattle.bool_decoder.proofs.state.stands.Lts as lts
-use Rattle.bool_decoder.proofs.state.byte_at.Reads as byte-at-reads
-use Rattle.bool_decoder.proofs.state.in_range.Reads as in-range-reads
-use Rattle.bool_decoder.proofs.state.shown.Reads as shown-reads
 
--- src/state.rt:58:9
 returns : tie.Need-returns
-returns c = ?
+unfolding standsOf
+returns c = rw (lt-ltb _ 2 (c .if1 .taken))
 
--- src/state.rt:62:9
 returns-2 : tie.Need-returns-2
-returns-2 c = ?
+unfolding standsOf
+returns-2 c = rw (le-ltb _ 2 (c .before .before .if1 .left), lt-ltb _ _ (c .if2 .taken))
 
--- src/state.rt:64:9
-byte-at-requires : tie.Need-byte-at-requires
-byte-at-requires c κs = search needs
-
--- src/state.rt:65:29
-sub-byte-at : tie.Need-sub-byte-at
-sub-byte-at c = search needs
-
--- src/state.rt:65:9
-byte-at-requires-2 : tie.Need-byte-at-requires-2
-byte-at-requires-2 c κs = search needs
-
--- src/state.rt:66:9
-shown-requires : tie.Need-shown-requires
-shown-requires c κs = search needs
-
--- src/state.rt:67:5
-in-range-requires : tie.Need-in-range-requires
-in-range-requires c κs = search needs
-
--- src/state.rt:54:1
 returns-3 : tie.Need-returns-3
-returns-3 c = ?
+unfolding standsOf
+returns-3 c =
+    let d = c .before .before .before in
+    rw (
+      le-ltb _ 2 (d .before .before .before .before .before .before .if1 .left),
+      le-ltb _ _ (d .before .before .before .before .if2 .left),
+      d .in-range .ensures,
+      d .before .shown .ensures,
+      d .before .before .byte-or-none2 .ensures .0,
+      d .before .before .before .byte-or-none .ensures .0,
+    )
 
 pub stands-spec : {M : Type 1} → statement M
 stands-spec =
     tie.close
-    (tie.spec
-    returns
-    returns-2
-    byte-at-requires
-    sub-byte-at
-    byte-at-requires-2
-    shown-requires
-    in-range-requires
-    returns-3)
+    (tie.spec returns returns-2 (λ c κs. search needs) (λ c. search needs) (λ c κs. search needs) (λ c κs. search needs) (λ c κs. search needs) returns-3)

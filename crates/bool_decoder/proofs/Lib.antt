@@ -5,3 +5,4 @@ pub mod Load
 pub mod Four
 pub mod Step
 pub mod States
+pub mod Runs

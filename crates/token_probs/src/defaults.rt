@@ -1,4 +1,8 @@
 // The default coefficient probabilities of RFC 6386, section 13.5, by plane, band and class, eleven at a time.
+ghost use mathlib.Core.Path.{_≡_};
+ghost use Rattle.token_probs.specs.Answers.{Default};
+ghost use Rattle.token_probs.specs.Defaults.{defaultProbs};
+
 pub const DEFAULT_COEFF_PROBS: [u8; 1056] = [
     128, 128, 128, 128, 128, 128, 128, 128, 128, 128, 128,
     128, 128, 128, 128, 128, 128, 128, 128, 128, 128, 128,
@@ -99,11 +103,15 @@ pub const DEFAULT_COEFF_PROBS: [u8; 1056] = [
 ];
 
 // One of them; 0 past the end.
-pub fn default_prob(i: usize) -> u8 {
+pub fn default_prob(i: usize) -> u8
+    ensures { λ r. ⌜ Default i r ⌝ }
+{
     if i < 1056 { DEFAULT_COEFF_PROBS[i] } else { 0 }
 }
 
 // All of them.
-pub fn default_probs() -> [u8; 1056] {
+pub fn default_probs() -> [u8; 1056]
+    ensures { λ r. ⌜ r ≡ defaultProbs ⌝ }
+{
     DEFAULT_COEFF_PROBS
 }

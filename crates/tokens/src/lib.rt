@@ -6,6 +6,13 @@
 mod block;
 mod tree;
 
+ghost use mathlib.Core.Path.{_≡_};
+ghost use Prim.Native.Nat.{_+_, _*_, _-_, _≤_, _<_};
+ghost use lib.ListN.{length};
+ghost use Rattle.bool_decoder.specs.BoolCoder.{bitOf};
+ghost use Rattle.tokens.specs.Tokens.{aboveSlot, leftSlot, baseOf, firstOf, oneBlock, allBlocks};
+ghost use Rattle.tokens.specs.Walks.{Threads, threadOf};
+
 use block::band;
 use block::decode_block;
 use bool_decoder::BoolDecoder;
@@ -26,7 +33,10 @@ pub struct Macroblock {
     pub state: BoolState,
 }
 
-fn above_slot(n: usize) -> usize {
+fn above_slot(n: usize) -> usize
+    requires { ⌜ n < 25 ⌝ }
+    ensures { λ r. ⌜ (r ≡ aboveSlot n) × (r < 9) ⌝ }
+{
     match n {
         0 => 8,
         1 => 0,
@@ -56,7 +66,10 @@ fn above_slot(n: usize) -> usize {
     }
 }
 
-fn left_slot(n: usize) -> usize {
+fn left_slot(n: usize) -> usize
+    requires { ⌜ n < 25 ⌝ }
+    ensures { λ r. ⌜ (r ≡ leftSlot n) × (r < 9) ⌝ }
+{
     match n {
         0 => 8,
         1 => 0,
@@ -87,7 +100,9 @@ fn left_slot(n: usize) -> usize {
 }
 
 // Where the probabilities of a block's plane start, of 264 a plane: Y after Y2, Y2, U and V, Y without Y2.
-fn base_of(n: usize, y2: bool) -> usize {
+fn base_of(n: usize, y2: bool) -> usize
+    ensures { λ r. ⌜ (r ≡ baseOf y2 n) × (r ≤ 792) ⌝ }
+{
     if n == 0 {
         return 264;
     }
@@ -98,7 +113,9 @@ fn base_of(n: usize, y2: bool) -> usize {
     }
 }
 
-fn first_of(n: usize, y2: bool) -> usize {
+fn first_of(n: usize, y2: bool) -> usize
+    ensures { λ r. ⌜ (r ≡ firstOf y2 n) × (r ≤ 1) ⌝ }
+{
     if n == 0 {
         return 0;
     }
@@ -110,7 +127,9 @@ fn first_of(n: usize, y2: bool) -> usize {
 }
 
 // Eleven probabilities for each neighbour that has coefficients.
-fn class_of(a: bool, b: bool) -> usize {
+fn count_row(a: bool, b: bool) -> usize
+    ensures { λ r. ⌜ (r ≡ 11 * (bitOf a + bitOf b)) × (r ≤ 22) ⌝ }
+{
     if a {
         if b { 22 } else { 11 }
     } else {
@@ -118,35 +137,33 @@ fn class_of(a: bool, b: bool) -> usize {
     }
 }
 
-// A block's flag: by the Rust's rule whether some coefficient is not 0, by the decoders' whether it has a token before its end.
-fn flag_of(by_token: bool, some: bool) -> bool {
-    if by_token { true } else { some }
-}
-
 // Block n, with its two contexts. Node 0 of its first token is read here, since most blocks are empty.
 fn one_block(
     src: &[u8],
     probs: &[u8],
-    by_token: bool,
+    zeros: bool,
     y2: bool,
     n: usize,
     d: BoolDecoder,
     above: &mut [bool; 9],
     left: &mut [bool; 9],
     out: &mut [i16; 400],
-) -> BoolDecoder {
+) -> BoolDecoder
+    requires { ⌜ (length (now probs) ≡ 1056) × (n < 25) ⌝ }
+    ensures { λ r. ⌜ Threads (now (src .entry)) (oneBlock (now (probs .entry)) zeros y2 n (threadOf (now (above .entry)) (now (left .entry)) (now (out .entry)))) d
+        (threadOf (now (above .exit)) (now (left .exit)) (now (out .exit))) r ⌝ }
+{
     let a = above_slot(n);
     let l = left_slot(n);
     let base = base_of(n, y2);
     let first = first_of(n, y2);
-    let row = base + band(first) + class_of(above[a], left[l]);
+    let row = base + band(first) + count_row(above[a], left[l]);
     let e = ready(src, d);
     let p = probs[row];
     if is_one(p, e) {
-        let b = decode_block(src, probs, base, row, 16 * n, first, after_one(p, e), out);
-        let f = flag_of(by_token, b.some);
-        above[a] = f;
-        left[l] = f;
+        let b = decode_block(src, probs, base, row, 16 * n, zeros, first, after_one(p, e), out);
+        above[a] = b.some;
+        left[l] = b.some;
         b.next
     } else {
         above[a] = false;
@@ -155,7 +172,9 @@ fn one_block(
     }
 }
 
-fn first_block(y2: bool) -> usize {
+fn first_block(y2: bool) -> usize
+    ensures { λ r. ⌜ (r ≡ 1 - bitOf y2) × (r ≤ 1) ⌝ }
+{
     if y2 { 0 } else { 1 }
 }
 
@@ -163,17 +182,21 @@ fn first_block(y2: bool) -> usize {
 fn all_blocks(
     src: &[u8],
     probs: &[u8],
-    by_token: bool,
+    zeros: bool,
     y2: bool,
     d: BoolDecoder,
     above: &mut [bool; 9],
     left: &mut [bool; 9],
     out: &mut [i16; 400],
-) -> BoolDecoder {
+) -> BoolDecoder
+    requires { ⌜ length (now probs) ≡ 1056 ⌝ }
+    ensures { λ r. ⌜ Threads (now (src .entry)) (allBlocks (now (probs .entry)) zeros y2 (threadOf (now (above .entry)) (now (left .entry)) (now (out .entry)))) d
+        (threadOf (now (above .exit)) (now (left .exit)) (now (out .exit))) r ⌝ }
+{
     let mut e = d;
     let mut n = first_block(y2);
     while n < 25 {
-        e = one_block(src, probs, by_token, y2, n, e, above, left, out);
+        e = one_block(src, probs, zeros, y2, n, e, above, left, out);
         n += 1;
     }
     e
@@ -198,7 +221,7 @@ fn refusal(reply: u32, above: [bool; 9], left: [bool; 9], s: BoolState) -> Macro
 fn walk(
     src: &[u8],
     probs: &[u8],
-    by_token: bool,
+    zeros: bool,
     y2: bool,
     above: [bool; 9],
     left: [bool; 9],
@@ -208,7 +231,7 @@ fn walk(
     let mut l = left;
     let mut out = blank();
     let d = resume(s);
-    let e = all_blocks(src, probs, by_token, y2, d, &mut a, &mut l, &mut out);
+    let e = all_blocks(src, probs, zeros, y2, d, &mut a, &mut l, &mut out);
     let after = save(src, e);
     if (src.len() as u64) < after.at {
         return refusal(9, above, left, s);

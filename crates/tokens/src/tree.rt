@@ -9,18 +9,30 @@ use bool_decoder::after_zero;
 use bool_decoder::is_one;
 use bool_decoder::ready;
 use bool_decoder::take;
+ghost use mathlib.Core.Path.{_≡_};
+ghost use Prim.Native.Nat.{_+_, _≤_, _<_};
+ghost use mathlib.Core.List.{[]};
+ghost use lib.ListN.{length};
+ghost use Rattle.bool_decoder.specs.BoolCoder.{bitOf};
+ghost use Rattle.tokens.specs.Tokens.{treed, value, threeFour, smallTree, catOneTwo, catThreeFour, catFiveSix, catUpper, catTree, largeTree, nonzeroTree};
+ghost use Rattle.tokens.specs.Walks.{Walks, tokenOf};
 
 pub struct Token {
     pub size: u32,
     pub next: BoolDecoder,
 }
 
-fn one(b: bool) -> u32 {
+fn one(b: bool) -> u32
+    ensures { λ r. ⌜ r ≡ bitOf b ⌝ }
+{
     if b { 1 } else { 0 }
 }
 
 // A base value and its extra bits, the most significant first.
-fn category(src: &[u8], base: u32, ps: &[u8], d: BoolDecoder) -> Token {
+fn category(src: &[u8], base: u32, ps: &[u8], d: BoolDecoder) -> Token
+    requires { ⌜ (0 < base) × (base ≤ 67) × (length (now ps) ≤ 11) ⌝ }
+    ensures { λ r. ⌜ Walks (now (src .entry)) (treed [] 0 (value base (now (ps .entry)))) 8 d r ⌝ }
+{
     let mut v: u32 = 0;
     let mut e = d;
     let mut i = 0;
@@ -37,7 +49,9 @@ fn category(src: &[u8], base: u32, ps: &[u8], d: BoolDecoder) -> Token {
     }
 }
 
-fn plain(size: u32, next: BoolDecoder) -> Token {
+fn plain(size: u32, next: BoolDecoder) -> Token
+    ensures { λ r. ⌜ r ≡ tokenOf size next ⌝ }
+{
     Token {
         size: size,
         next: next,
@@ -45,13 +59,19 @@ fn plain(size: u32, next: BoolDecoder) -> Token {
 }
 
 // Node 5.
-fn three_four(src: &[u8], probs: &[u8], row: usize, d: BoolDecoder) -> Token {
+fn three_four(src: &[u8], probs: &[u8], row: usize, d: BoolDecoder) -> Token
+    requires { ⌜ row + 11 ≤ length (now probs) ⌝ }
+    ensures { λ r. ⌜ Walks (now (src .entry)) (treed (now (probs .entry)) row threeFour) 15 d r ⌝ }
+{
     let b = take(probs[row + 5], d);
     plain(3 + one(b.bit), ready(src, b.next))
 }
 
 // Node 4.
-fn small(src: &[u8], probs: &[u8], row: usize, d: BoolDecoder) -> Token {
+fn small(src: &[u8], probs: &[u8], row: usize, d: BoolDecoder) -> Token
+    requires { ⌜ row + 11 ≤ length (now probs) ⌝ }
+    ensures { λ r. ⌜ Walks (now (src .entry)) (treed (now (probs .entry)) row smallTree) 26 d r ⌝ }
+{
     let p = probs[row + 4];
     if is_one(p, d) {
         three_four(src, probs, row, after_one(p, d))
@@ -61,7 +81,10 @@ fn small(src: &[u8], probs: &[u8], row: usize, d: BoolDecoder) -> Token {
 }
 
 // Node 7.
-fn cat_one_two(src: &[u8], probs: &[u8], row: usize, d: BoolDecoder) -> Token {
+fn cat_one_two(src: &[u8], probs: &[u8], row: usize, d: BoolDecoder) -> Token
+    requires { ⌜ row + 11 ≤ length (now probs) ⌝ }
+    ensures { λ r. ⌜ Walks (now (src .entry)) (treed (now (probs .entry)) row catOneTwo) 29 d r ⌝ }
+{
     let p = probs[row + 7];
     if is_one(p, d) {
         let high = take(165, after_one(p, d));
@@ -74,7 +97,10 @@ fn cat_one_two(src: &[u8], probs: &[u8], row: usize, d: BoolDecoder) -> Token {
 }
 
 // Node 9.
-fn cat_three_four(src: &[u8], probs: &[u8], row: usize, d: BoolDecoder) -> Token {
+fn cat_three_four(src: &[u8], probs: &[u8], row: usize, d: BoolDecoder) -> Token
+    requires { ⌜ row + 11 ≤ length (now probs) ⌝ }
+    ensures { λ r. ⌜ Walks (now (src .entry)) (treed (now (probs .entry)) row catThreeFour) 15 d r ⌝ }
+{
     let p = probs[row + 9];
     if is_one(p, d) {
         let ps = [176u8, 155, 140, 135];
@@ -86,7 +112,10 @@ fn cat_three_four(src: &[u8], probs: &[u8], row: usize, d: BoolDecoder) -> Token
 }
 
 // Node 10.
-fn cat_five_six(src: &[u8], probs: &[u8], row: usize, d: BoolDecoder) -> Token {
+fn cat_five_six(src: &[u8], probs: &[u8], row: usize, d: BoolDecoder) -> Token
+    requires { ⌜ row + 11 ≤ length (now probs) ⌝ }
+    ensures { λ r. ⌜ Walks (now (src .entry)) (treed (now (probs .entry)) row catFiveSix) 15 d r ⌝ }
+{
     let p = probs[row + 10];
     if is_one(p, d) {
         let ps = [254u8, 254, 243, 230, 196, 177, 153, 140, 133, 130, 129];
@@ -98,7 +127,10 @@ fn cat_five_six(src: &[u8], probs: &[u8], row: usize, d: BoolDecoder) -> Token {
 }
 
 // Node 8.
-fn cat_upper(src: &[u8], probs: &[u8], row: usize, d: BoolDecoder) -> Token {
+fn cat_upper(src: &[u8], probs: &[u8], row: usize, d: BoolDecoder) -> Token
+    requires { ⌜ row + 11 ≤ length (now probs) ⌝ }
+    ensures { λ r. ⌜ Walks (now (src .entry)) (treed (now (probs .entry)) row catUpper) 22 d r ⌝ }
+{
     let p = probs[row + 8];
     if is_one(p, d) {
         cat_five_six(src, probs, row, after_one(p, d))
@@ -108,7 +140,10 @@ fn cat_upper(src: &[u8], probs: &[u8], row: usize, d: BoolDecoder) -> Token {
 }
 
 // Node 6.
-fn cats(src: &[u8], probs: &[u8], row: usize, d: BoolDecoder) -> Token {
+fn cats(src: &[u8], probs: &[u8], row: usize, d: BoolDecoder) -> Token
+    requires { ⌜ row + 11 ≤ length (now probs) ⌝ }
+    ensures { λ r. ⌜ Walks (now (src .entry)) (treed (now (probs .entry)) row catTree) 15 d r ⌝ }
+{
     let p = probs[row + 6];
     if is_one(p, d) {
         cat_upper(src, probs, row, ready(src, after_one(p, d)))
@@ -118,7 +153,10 @@ fn cats(src: &[u8], probs: &[u8], row: usize, d: BoolDecoder) -> Token {
 }
 
 // Node 3.
-fn large(src: &[u8], probs: &[u8], row: usize, d: BoolDecoder) -> Token {
+fn large(src: &[u8], probs: &[u8], row: usize, d: BoolDecoder) -> Token
+    requires { ⌜ row + 11 ≤ length (now probs) ⌝ }
+    ensures { λ r. ⌜ Walks (now (src .entry)) (treed (now (probs .entry)) row largeTree) 8 d r ⌝ }
+{
     let p = probs[row + 3];
     let e = ready(src, d);
     if is_one(p, e) {
@@ -129,7 +167,10 @@ fn large(src: &[u8], probs: &[u8], row: usize, d: BoolDecoder) -> Token {
 }
 
 // Node 2.
-pub fn nonzero(src: &[u8], probs: &[u8], row: usize, d: BoolDecoder) -> Token {
+pub fn nonzero(src: &[u8], probs: &[u8], row: usize, d: BoolDecoder) -> Token
+    requires { ⌜ row + 11 ≤ length (now probs) ⌝ }
+    ensures { λ r. ⌜ Walks (now (src .entry)) (treed (now (probs .entry)) row nonzeroTree) 26 d r ⌝ }
+{
     let p = probs[row + 2];
     if is_one(p, d) {
         large(src, probs, row, after_one(p, d))

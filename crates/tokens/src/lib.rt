@@ -12,6 +12,9 @@ ghost use lib.ListN.{length};
 ghost use Rattle.bool_decoder.specs.BoolCoder.{bitOf};
 ghost use Rattle.tokens.specs.Tokens.{aboveSlot, leftSlot, baseOf, firstOf, oneBlock, allBlocks};
 ghost use Rattle.tokens.specs.Walks.{Threads, threadOf};
+ghost use Rattle.tokens.specs.Answers.{blank, refused, answered, walked, decoded};
+ghost use Rattle.bool_decoder.specs.State.{standsOf};
+ghost use mathlib.Core.Bool.{true};
 
 use block::band;
 use block::decode_block;
@@ -25,6 +28,13 @@ use bool_decoder::resume;
 use bool_decoder::save;
 use bool_decoder::stands;
 
+// The replies of a macroblock's tokens.
+pub const DONE: u32 = 0;
+pub const WRONG_LENGTH: u32 = 1;
+pub const PAST_END: u32 = 9;
+pub const NO_PROBABILITY: u32 = 10;
+
+// The answer: the coefficients of the 25 blocks in raster order, the contexts, the decoder's state.
 pub struct Macroblock {
     pub reply: u32,
     pub coeffs: [i16; 400],
@@ -202,12 +212,16 @@ fn all_blocks(
     e
 }
 
-fn blank() -> [i16; 400] {
+fn no_coefficients() -> [i16; 400]
+    ensures { λ r. ⌜ r ≡ blank ⌝ }
+{
     [0i16; 400]
 }
 
-fn refusal(reply: u32, above: [bool; 9], left: [bool; 9], s: BoolState) -> Macroblock {
-    let zeros = blank();
+fn refusal(reply: u32, above: [bool; 9], left: [bool; 9], s: BoolState) -> Macroblock
+    ensures { λ r. ⌜ r ≡ refused reply above left s ⌝ }
+{
+    let zeros = no_coefficients();
     Macroblock {
         reply: reply,
         coeffs: zeros,
@@ -217,8 +231,7 @@ fn refusal(reply: u32, above: [bool; 9], left: [bool; 9], s: BoolState) -> Macro
     }
 }
 
-// The walk itself, for any probabilities.
-fn walk(
+fn answer(
     src: &[u8],
     probs: &[u8],
     zeros: bool,
@@ -226,18 +239,22 @@ fn walk(
     above: [bool; 9],
     left: [bool; 9],
     s: BoolState,
-) -> Macroblock {
+) -> Macroblock
+    requires { ⌜ (length (now probs) ≡ 1056) × (standsOf (now src) s ≡ true) ⌝ }
+    ensures { λ r. ⌜ r ≡ answered (now (src .entry)) (now (probs .entry)) zeros y2 above left s ⌝ }
+{
     let mut a = above;
     let mut l = left;
-    let mut out = blank();
+    let mut out = no_coefficients();
     let d = resume(s);
     let e = all_blocks(src, probs, zeros, y2, d, &mut a, &mut l, &mut out);
     let after = save(src, e);
-    if (src.len() as u64) < after.at {
-        return refusal(9, above, left, s);
+    let end = src.len() as u64;
+    if end < after.at {
+        return refusal(PAST_END, above, left, s);
     }
     Macroblock {
-        reply: 0,
+        reply: DONE,
         coeffs: out,
         above: a,
         left: l,
@@ -245,9 +262,31 @@ fn walk(
     }
 }
 
-// The tokens of one macroblock with the Rust's rule for its flags; `y2`: it has a Y2 block. Replies: 1 for other than 1,056
-// probabilities, 10 when one is 0, 9 when the decoder needs a byte past the end or its state is none of this partition's; all
-// coefficients are then 0, and contexts and state as they came in.
+// The tokens of one macroblock for any probabilities, 0 among them; `zeros`: whether a zero before its end counts for a block's
+// flag, as in every decoder. Replies: 1 for other than 1,056 probabilities, 9 when the decoder needs a byte past the end or its
+// state is none that a start or a read of this partition leaves; all coefficients are then 0, contexts and state as they came in.
+pub fn walk_macroblock(
+    src: &[u8],
+    probs: &[u8],
+    zeros: bool,
+    y2: bool,
+    above: [bool; 9],
+    left: [bool; 9],
+    s: BoolState,
+) -> Macroblock
+    ensures { λ r. ⌜ r ≡ walked (now (src .entry)) (now (probs .entry)) zeros y2 above left s ⌝ }
+{
+    if probs.len() != 1056 {
+        return refusal(WRONG_LENGTH, above, left, s);
+    }
+    if stands(src, s) {
+        return answer(src, probs, zeros, y2, above, left, s);
+    }
+    refusal(PAST_END, above, left, s)
+}
+
+// The tokens of one macroblock with the Rust's rule for its flags: some coefficient is not 0. `y2`: it has a Y2 block. Replies: 1
+// for other than 1,056 probabilities, 10 when one is 0, 9 as in `walk_macroblock`.
 pub fn decode_macroblock(
     src: &[u8],
     probs: &[u8],
@@ -255,15 +294,14 @@ pub fn decode_macroblock(
     above: [bool; 9],
     left: [bool; 9],
     s: BoolState,
-) -> Macroblock {
+) -> Macroblock
+    ensures { λ r. ⌜ r ≡ decoded (now (src .entry)) (now (probs .entry)) y2 above left s ⌝ }
+{
     if probs.len() != 1056 {
-        return refusal(1, above, left, s);
+        return refusal(WRONG_LENGTH, above, left, s);
     }
     if token_probs::no_zero(probs) {
-        if stands(src, s) {
-            return walk(src, probs, false, y2, above, left, s);
-        }
-        return refusal(9, above, left, s);
+        return walk_macroblock(src, probs, false, y2, above, left, s);
     }
-    refusal(10, above, left, s)
+    refusal(NO_PROBABILITY, above, left, s)
 }

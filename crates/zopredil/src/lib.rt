@@ -10,8 +10,7 @@ ghost use Rattle.right_pixels.specs.Answers.{rightAnswer};
 ghost use Rattle.shelf.specs.Shelf.{bytesAnswer};
 ghost use Rattle.still_numbers.specs.Numbers.{stillNumber, aloneNumber};
 ghost use Rattle.mb_quantiser.specs.Answers.{slicesAnswer};
-
-mod partition;
+ghost use Rattle.partition.specs.Answers.{startAnswer, tokensAnswer};
 
 #[no_mangle]
 pub extern "C" fn zopredil_y1_factors(yac_qi: i32, ydc_delta: i32, out: &mut [i16]) -> u32
@@ -237,4 +236,27 @@ pub extern "C" fn zopredil_shelf(
         (now (out .entry)) (now (replies .entry)) (now (clipped .entry)) ⌝ }
 {
     shelf::shelf_bytes(modes, records, sub_modes, coeffs, out, replies, clipped)
+}
+
+#[no_mangle]
+pub extern "C" fn zopredil_bool_start(partition: &[u8], state: &mut [u64]) -> u32
+    ensures { λ r. ⌜ (r, now (state .exit)) ≡ startAnswer (now (partition .entry)) (now (state .entry)) ⌝ }
+{
+    partition::bool_start(partition, state)
+}
+
+#[no_mangle]
+pub extern "C" fn zopredil_tokens(
+    partition: &[u8],
+    probabilities: &[u8],
+    y2: u8,
+    above: &mut [u8],
+    left: &mut [u8],
+    state: &mut [u64],
+    coeffs: &mut [i16],
+) -> u32
+    ensures { λ r. ⌜ (r, now (above .exit), now (left .exit), now (state .exit), now (coeffs .exit))
+        ≡ tokensAnswer (now (partition .entry)) (now (probabilities .entry)) y2 (now (above .entry)) (now (left .entry)) (now (state .entry)) (now (coeffs .entry)) ⌝ }
+{
+    partition::tokens(partition, probabilities, y2, above, left, state, coeffs)
 }

@@ -1,23 +1,25 @@
+use mathlib.Core.Path.{refl}
+use native.Mathlib.Omega.{arith}
 use Rattle.tokens.proofs.count_row.Statement.{statement}
 use Rattle.tokens.proofs.count_row.Tie as tie
-use Rattle.tokens.proofs.count_row.Reads as reads
-use Rattle.tokens.proofs.count_row.Lts as lts
 
--- src/lib.rt:130:1
 returns : tie.Need-returns
-returns c = ?
+returns c = (rw (c .before .if1 .taken, c .if2 .taken), omega arith)
 
--- src/lib.rt:130:1
 returns-2 : tie.Need-returns-2
-returns-2 c = ?
+returns-2 c = (rw (c .before .if1 .taken, c .if2 .left), omega arith)
 
--- src/lib.rt:130:1
 returns-3 : tie.Need-returns-3
-returns-3 c = ?
+returns-3 c = (rw (c .before .if1 .left, c .if3 .taken), omega arith)
 
--- src/lib.rt:130:1
 returns-4 : tie.Need-returns-4
-returns-4 c = ?
+returns-4 c = (rw (c .before .if1 .left, c .if3 .left), omega arith)
 
 pub count-row-spec : {M : Type 1} → statement M
-count-row-spec = tie.close (tie.spec returns returns-2 returns-3 returns-4)
+count-row-spec =
+    tie.close
+    (tie.spec
+    returns
+    returns-2
+    returns-3
+    returns-4)

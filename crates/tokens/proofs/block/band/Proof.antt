@@ -1,89 +1,29 @@
+use mathlib.Core.Path.{refl}
+use native.Mathlib.Omega.{arith}
+use Rattle.lists.proofs.Tests.{none-below}
+use Rattle.tokens.specs.Tokens.{bands}
+use Rattle.tokens.proofs.Slots.{band-arm, band-last}
 use Rattle.tokens.proofs.block.band.Statement.{statement}
 use Rattle.tokens.proofs.block.band.Tie as tie
-use Rattle.tokens.proofs.block.band.Reads as reads
-use Rattle.tokens.proofs.block.band.Lts as lts
-
--- src/block.rt:24:1
-returns : tie.Need-returns
-returns c = ?
-
--- src/block.rt:24:1
-returns-2 : tie.Need-returns-2
-returns-2 c = ?
-
--- src/block.rt:24:1
-returns-3 : tie.Need-returns-3
-returns-3 c = ?
-
--- src/block.rt:24:1
-returns-4 : tie.Need-returns-4
-returns-4 c = ?
-
--- src/block.rt:24:1
-returns-5 : tie.Need-returns-5
-returns-5 c = ?
-
--- src/block.rt:24:1
-returns-6 : tie.Need-returns-6
-returns-6 c = ?
-
--- src/block.rt:24:1
-returns-7 : tie.Need-returns-7
-returns-7 c = ?
-
--- src/block.rt:24:1
-returns-8 : tie.Need-returns-8
-returns-8 c = ?
-
--- src/block.rt:24:1
-returns-9 : tie.Need-returns-9
-returns-9 c = ?
-
--- src/block.rt:24:1
-returns-10 : tie.Need-returns-10
-returns-10 c = ?
-
--- src/block.rt:24:1
-returns-11 : tie.Need-returns-11
-returns-11 c = ?
-
--- src/block.rt:24:1
-returns-12 : tie.Need-returns-12
-returns-12 c = ?
-
--- src/block.rt:24:1
-returns-13 : tie.Need-returns-13
-returns-13 c = ?
-
--- src/block.rt:24:1
-returns-14 : tie.Need-returns-14
-returns-14 c = ?
-
--- src/block.rt:24:1
-returns-15 : tie.Need-returns-15
-returns-15 c = ?
-
--- src/block.rt:24:1
-returns-16 : tie.Need-returns-16
-returns-16 c = ?
 
 pub band-spec : {M : Type 1} → statement M
+unfolding bands
 band-spec =
     tie.close
     (tie.spec
-    returns
-    returns-2
-    returns-3
-    returns-4
-    returns-5
-    returns-6
-    returns-7
-    returns-8
-    returns-9
-    returns-10
-    returns-11
-    returns-12
-    returns-13
-    returns-14
-    returns-15
-    returns-16)
+    (λ c. band-arm _ 0 (c .match .keys1) refl (omega arith))
+    (λ c. band-arm _ 1 (c .match .keys2) refl (omega arith))
+    (λ c. band-arm _ 2 (c .match .keys3) refl (omega arith))
+    (λ c. band-arm _ 3 (c .match .keys4) refl (omega arith))
+    (λ c. band-arm _ 4 (c .match .keys5) refl (omega arith))
+    (λ c. band-arm _ 5 (c .match .keys6) refl (omega arith))
+    (λ c. band-arm _ 6 (c .match .keys7) refl (omega arith))
+    (λ c. band-arm _ 7 (c .match .keys8) refl (omega arith))
+    (λ c. band-arm _ 8 (c .match .keys9) refl (omega arith))
+    (λ c. band-arm _ 9 (c .match .keys10) refl (omega arith))
+    (λ c. band-arm _ 10 (c .match .keys11) refl (omega arith))
+    (λ c. band-arm _ 11 (c .match .keys12) refl (omega arith))
+    (λ c. band-arm _ 12 (c .match .keys13) refl (omega arith))
+    (λ c. band-arm _ 13 (c .match .keys14) refl (omega arith))
+    (λ c. band-arm _ 14 (c .match .keys15) refl (omega arith))
+    (λ c. band-last _ (none-below 15 _ (c .match .rest))))

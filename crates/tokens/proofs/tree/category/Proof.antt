@@ -1,68 +1,52 @@
+use native.Mathlib.Omega.{arith}
+use borrow.Author.Needs.{needs}
+use Prim.Native.Nat.{_-_, _^_, _≤_, _<_}
+use mathlib.Core.Path.{_≡_, ap, _∙_}
+use Prim.Native.Nat.{ℕ, _+_}
+use lib.ListN.{length}
+use Rattle.bool_decoder.specs.BoolCoder.{Coder}
+use Rattle.bool_decoder.specs.Held.{Holds}
+use Rattle.tokens.proofs.Trees.{Going, going-start, going-on, going-done, small-on, under-eleven, bit-most}
 use Rattle.tokens.proofs.tree.category.Statement.{statement}
 use Rattle.tokens.proofs.tree.category.Tie as tie
-use Rattle.tokens.proofs.tree.category.Reads as reads
-use Rattle.tokens.proofs.tree.category.Lts as lts
-use Rattle.bool_decoder.proofs.ready.Reads as ready-reads
-use Rattle.bool_decoder.proofs.take.Reads as take-reads
-use Rattle.tokens.proofs.tree.one.Reads as one-reads
 
 abbrev Inv-loop : tie.InvT-loop
-Inv-loop src base ps v₀ e₀ i₀ v e i = ?
+Inv-loop src base ps v₀ e₀ i₀ v e i = (i ≤ length ps) × (v < 2 ^ i) × ((c : Coder) → Holds src e₀ c → Going src ps i v e c)
 
 abbrev μ-loop : tie.MeasureT-loop
-μ-loop src base ps v₀ e₀ i₀ v e i = ?
+μ-loop src base ps v₀ e₀ i₀ v e i = length ps - i
 
--- src/tree.rt:39:5
 loop-holds : tie.Need-loop-holds Inv-loop μ-loop
-loop-holds c = ?
+loop-holds c =
+    let a = c .before .before .args in
+    (omega arith, omega arith, going-start (a .src .now) (a .ps .now) (a .d))
 
--- src/tree.rt:40:22
-shared-slice-read-take : tie.Need-shared-slice-read-take Inv-loop μ-loop
-shared-slice-read-take c = ?
-
--- src/tree.rt:40:29
-ready-requires : tie.Need-ready-requires Inv-loop μ-loop
-ready-requires c κs = ?
-
--- src/tree.rt:40:13
-take-requires : tie.Need-take-requires Inv-loop μ-loop
-take-requires c κs = ?
-
--- src/tree.rt:41:13
 add-v : tie.Need-add-v Inv-loop μ-loop
-add-v c = ?
+add-v c = omega (arith, under-eleven (c .before .before .before .before .loop .v) (c .before .before .before .before .loop .i) (c .before .before .before .before .loop .inv .1) (omega (arith, c .before .before .before .loop-test .taken, c .before .before .before .before .before .before .before .pre .2)))
 
--- src/tree.rt:41:21
-one-requires : tie.Need-one-requires Inv-loop μ-loop
-one-requires c κs = ?
-
--- src/tree.rt:41:13
 add-v-2 : tie.Need-add-v-2 Inv-loop μ-loop
-add-v-2 c = ?
+add-v-2 c = omega (arith, under-eleven (c .before .before .before .before .before .loop .v) (c .before .before .before .before .before .loop .i) (c .before .before .before .before .before .loop .inv .1) (omega (arith, c .before .before .before .before .loop-test .taken, c .before .before .before .before .before .before .before .before .pre .2)), c .one .ensures, bit-most (c .before .take .result .bit))
 
--- src/tree.rt:43:9
-add-i : tie.Need-add-i Inv-loop μ-loop
-add-i c = ?
-
--- src/tree.rt:39:5
-loop-less : tie.Need-loop-less Inv-loop μ-loop
-loop-less c = ?
-
--- src/tree.rt:39:5
 loop-again : tie.Need-loop-again Inv-loop μ-loop
-loop-again c = ?
+loop-again c =
+    let a = c .before .before .before .before .before .before .before .before .before .args in
+    let l = c .before .before .before .before .before .before .loop in
+    let e : l .v + l .v + c .before .one .result ≡ l .v + l .v + c .before .one .result = omega arith in
+    let z = ap (λ (i : ℕ). l .v + l .v + i) (c .before .one .ensures) in (
+      omega arith,
+      small-on (l .v) (l .v + l .v + c .before .one .result) (l .i) (c .before .before .take .result .bit) (l .inv .1) z,
+      λ c₀ h. going-on (a .src .now) (a .ps .now) (l .i) (l .v) (l .e) (c .before .before .before .ready .result) (c .before .before .take .result) (l .v + l .v + c .before .one .result) c₀ (c .before .before .before .before .before .loop-test .taken) (c .before .before .before .ready .ensures) (c .before .before .take .ensures) z (l .inv .2 c₀ h),
+    )
 
--- src/tree.rt:45:9
-ready-requires-2 : tie.Need-ready-requires-2 Inv-loop μ-loop
-ready-requires-2 c κs = ?
-
--- src/tree.rt:47:15
 add-t17 : tie.Need-add-t17 Inv-loop μ-loop
-add-t17 c = ?
+add-t17 c = omega (arith, under-eleven (c .before .before .loop .v) (c .before .before .loop .i) (c .before .before .loop .inv .1) (omega (arith, c .before .before .loop .inv .0, c .before .before .before .before .before .pre .2)), c .before .before .before .before .before .pre .1)
 
--- src/tree.rt:32:1
 returns : tie.Need-returns Inv-loop μ-loop
-returns c = ?
+returns c =
+    let a = c .before .before .before .before .before .args in
+    let l = c .before .before .loop in
+    going-done (a .src .now) (a .ps .now) (a .base) (l .i) (l .v) (a .d) (l .e) (c .ready2 .result) (l .inv .0) (c .before .loop-test .left) (c .before .before .before .before .before .pre .0)
+    (omega (arith, under-eleven (l .v) (l .i) (l .inv .1) (omega (arith, l .inv .0, c .before .before .before .before .before .pre .2)), c .before .before .before .before .before .pre .1)) (l .inv .2) (c .ready2 .ensures)
 
 pub category-spec : {M : Type 1} → statement M
 category-spec =
@@ -71,15 +55,15 @@ category-spec =
     Inv-loop
     μ-loop
     loop-holds
-    shared-slice-read-take
-    ready-requires
-    take-requires
+    (λ c. search needs)
+    (λ c κs. search needs)
+    (λ c κs. search needs)
     add-v
-    one-requires
+    (λ c κs. search needs)
     add-v-2
-    add-i
-    loop-less
+    (λ c. search needs)
+    (λ c. search needs)
     loop-again
-    ready-requires-2
+    (λ c κs. search needs)
     add-t17
     returns)

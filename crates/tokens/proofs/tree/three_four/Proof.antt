@@ -1,54 +1,30 @@
+use native.Mathlib.Omega.{arith}
 use borrow.Author.Needs.{needs}
+use Rattle.tokens.proofs.Trees.{walk-pair, bit-most}
+use mathlib.Core.Path.{_∙_, ap}
+use Prim.Native.Nat.{ℕ, _+_}
+use Rattle.tokens.specs.Walks.{tokenOf}
 use Rattle.tokens.proofs.tree.three_four.Statement.{statement}
 use Rattle.tokens.proofs.tree.three_four.Tie as tie
-use Rattle.tokens.proofs.tree.three_four.Reads as reads
-use Rattle.tokens.proofs.tree.three_four.Lts as lts
-use Rattle.bool_decoder.proofs.ready.Reads as ready-reads
-use Rattle.bool_decoder.proofs.take.Reads as take-reads
-use Rattle.tokens.proofs.tree.one.Reads as one-reads
-use Rattle.tokens.proofs.tree.plain.Reads as plain-reads
 
--- src/tree.rt:66:24
-add-take : tie.Need-add-take
-add-take c = search needs
-
--- src/tree.rt:66:18
-shared-slice-read-take : tie.Need-shared-slice-read-take
-shared-slice-read-take c = search needs
-
--- src/tree.rt:66:9
-take-requires : tie.Need-take-requires
-take-requires c κs = search needs
-
--- src/tree.rt:67:15
-one-requires : tie.Need-one-requires
-one-requires c κs = search needs
-
--- src/tree.rt:67:11
 add-plain : tie.Need-add-plain
-add-plain c = ?
+add-plain c = omega (arith, c .one .ensures, bit-most (c .before .take .result .bit))
 
--- src/tree.rt:67:27
-ready-requires : tie.Need-ready-requires
-ready-requires c κs = search needs
-
--- src/tree.rt:67:5
-plain-requires : tie.Need-plain-requires
-plain-requires c κs = search needs
-
--- src/tree.rt:62:1
 returns : tie.Need-returns
-returns c = ?
+returns c =
+    let a = c .before .before .before .before .before .before .before .args in
+    walk-pair (a .src .now) (a .probs .now) (a .row) 5 3 (a .d) (c .before .ready .result) (c .before .before .before .take .result) (c .plain .result) (c .before .before .before .take .ensures) (c .before .ready .ensures)
+    (c .plain .ensures ∙ ap (λ (i : ℕ). tokenOf (3 + i) (c .before .ready .result)) (c .before .before .one .ensures)) (omega arith) (omega arith)
 
 pub three-four-spec : {M : Type 1} → statement M
 three-four-spec =
     tie.close
     (tie.spec
-    add-take
-    shared-slice-read-take
-    take-requires
-    one-requires
+    (λ c. search needs)
+    (λ c. search needs)
+    (λ c κs. search needs)
+    (λ c κs. search needs)
     add-plain
-    ready-requires
-    plain-requires
+    (λ c κs. search needs)
+    (λ c κs. search needs)
     returns)

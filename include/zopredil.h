@@ -16,7 +16,9 @@
  *     5  a sum of quantiser indices is outside signed 32 bits
  *     6  not used: no call answers with it
  *     7  the picture's size or the macroblock's place is outside its limits
- *     8  a byte is no mode's number, or a skip or mark byte is neither 0 nor 1
+ *     8  a byte is no mode's number, or a skip, mark or flag byte is neither 0 nor 1
+ *     9  the bool decoder needs a byte past the end of its partition
+ *    10  a token probability is 0
  *    12  a list has more stills than 4,096
  *
  * Of the slices that are written, plane and the y, u and v of a still are planes, which hold a picture: a refusal
@@ -244,6 +246,30 @@ uint32_t zopredil_shelf(const uint8_t *modes, size_t modes_len, const uint8_t *r
 uint32_t zopredil_distance(const uint32_t *sizes, size_t sizes_len, const uint8_t *drawn, size_t drawn_len,
                            const uint8_t *measured, size_t measured_len, uint64_t *reports, size_t reports_len,
                            uint64_t *totals, size_t totals_len);
+
+/* Partition bytes as stored (7 and 13). A token partition is read by a bool decoder, whose state between two calls is 4
+ * numbers, as the RFC's listing (7.3) keeps it:
+ *
+ *     0  the place of the next byte     2  value, two bytes
+ *     1  range, 128 to 255              3  bit_count, the bits shifted out of value since the last byte, 0 to 7
+ *
+ * zopredil_bool_start gives the state at the start of a partition; state has 4 numbers. Replies: 1, nothing written. */
+uint32_t zopredil_bool_start(const uint8_t *partition, size_t partition_len, uint64_t *state, size_t state_len);
+
+/* The tokens of one macroblock. probabilities has 1,056 bytes: four planes (Y after Y2, Y2, U and V, Y without Y2) of eight
+ * bands of three classes of eleven. y2 is 1 where the macroblock has a Y2 block, else 0. above and left have 9 flags of 0 or
+ * 1 each, whether the block there has a coefficient that is not 0, and hold those of this macroblock afterwards:
+ *
+ *     0 .. 3  Y, from the left or from the top     4, 5  U     6, 7  V     8  Y2
+ *
+ * coeffs has 400 numbers: Y2 16, Y 256, U 64, V 64, each block in raster order, before they are dequantised; without Y2 the
+ * first 16 are 0. The coefficients lie within 2,114 of 0. Replies: 1, nothing written; then 8 where y2 or a flag is neither 0
+ * nor 1; 10 where a probability is 0; 9 where the bool decoder needs a byte past the end of the partition, or its state is
+ * none that a start or a read of this partition leaves. After 8, 10 and 9 coeffs is zeros, and above, left and state are as
+ * they came. The decoder needs a byte when the RFC's listing loads it: two at the start, and one after each eighth shift. */
+uint32_t zopredil_tokens(const uint8_t *partition, size_t partition_len, const uint8_t *probabilities,
+                         size_t probabilities_len, uint8_t y2, uint8_t *above, size_t above_len, uint8_t *left,
+                         size_t left_len, uint64_t *state, size_t state_len, int16_t *coeffs, size_t coeffs_len);
 
 #ifdef __cplusplus
 }

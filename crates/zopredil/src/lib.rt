@@ -4,6 +4,7 @@
 pub mod distances;
 pub mod macroblocks;
 pub mod neighbours;
+pub mod partitions;
 pub mod predictions;
 pub mod stills;
 pub mod transforms;

@@ -1,0 +1,4 @@
+pub mod BoolCoder
+pub mod Held
+pub mod Inside
+pub mod State

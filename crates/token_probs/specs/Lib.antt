@@ -1,0 +1,2 @@
+pub mod Defaults
+pub mod Answers

@@ -1,0 +1,5 @@
+pub mod Trees
+pub mod Slots
+pub mod Positions
+pub mod Blocks
+pub mod Told

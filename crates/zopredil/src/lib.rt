@@ -1,5 +1,7 @@
 // The C interface, include/zopredil.h: numbers pass as themselves, a slice as pointer and length. Each function is one of the
 // library over lent slices, under its name in C, with the same promise.
+mod filter;
+
 ghost use mathlib.Core.Path.{_≡_};
 ghost use Rattle.slices.specs.Copies.{_beside_};
 ghost use Rattle.transform_slices.specs.Answers.{factorsAnswer, dequantAnswer, whtAnswer, whtDcAnswer, dctAnswer, addIntoAnswer, residueAnswer};

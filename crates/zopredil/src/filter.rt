@@ -1,0 +1,31 @@
+// The loop filter's calls.
+
+#[no_mangle]
+pub extern "C" fn zopredil_filter(
+    cols: usize,
+    rows: usize,
+    kind: u8,
+    level: u8,
+    sharpness: u8,
+    inner: &[u8],
+    y: &mut [u8],
+    u: &mut [u8],
+    v: &mut [u8],
+) -> u32 {
+    loop_filter::filter(cols, rows, kind, level, sharpness, inner, y, u, v)
+}
+
+#[no_mangle]
+pub extern "C" fn zopredil_filter_levels(
+    cols: usize,
+    rows: usize,
+    kind: u8,
+    sharpness: u8,
+    levels: &[u8],
+    inner: &[u8],
+    y: &mut [u8],
+    u: &mut [u8],
+    v: &mut [u8],
+) -> u32 {
+    loop_filter::filter_levels(cols, rows, kind, sharpness, levels, inner, y, u, v)
+}

@@ -4,8 +4,9 @@ ghost use mathlib.Core.Path.{_≡_};
 ghost use mathlib.Core.Bool.{Bool, true, false};
 ghost use Prim.Native.Nat.{_+_, _*_, _/_, _-_, _≤_, _<_, min, max};
 ghost use lib.Dec.{leb, ltb};
-ghost use Rattle.edge_filters.specs.Pixels.{pick, both, apart, held, near, smooth, steep, pull, nudged, easedIf, spread, spreadIf, filtered, interiorOf, hevOf, outerLimits, innerLimits};
-
+ghost use Rattle.lists.specs.Lists.{pick};
+ghost use Rattle.section15.specs.LoopFilter.{apart, near, smooth, steep, filtered};
+ghost use Rattle.edge_filters.specs.Pixels.{held, pull, nudged, easedIf, spread, spreadIf};
 use section15::Across;
 use section15::Kind;
 use section15::Limits;

@@ -1,30 +1,48 @@
-// The limits of the loop filter from a level and a sharpness (RFC 6386, 15.2 to 15.4).
+// The limits of the loop filter, from a level and a sharpness (RFC 6386, section 15).
+ghost use mathlib.Core.Path.{_≡_};
+ghost use Prim.Native.Nat.{_+_, _*_, _/_, _-_, _≤_, min, max};
+ghost use lib.Dec.{ltb};
+ghost use Rattle.lists.specs.Lists.{pick};
+ghost use Rattle.section15.specs.LoopFilter.{interiorOf, hevOf, limitsOf, ruleOf};
 use section15::Limits;
 use section15::Rule;
 
-fn larger(x: u8, y: u8) -> u8 {
+fn larger(x: u8, y: u8) -> u8
+    ensures { λ r. ⌜ r ≡ max x y ⌝ }
+{
     if x < y { y } else { x }
 }
 
-fn smaller(x: u8, y: u8) -> u8 {
+fn smaller(x: u8, y: u8) -> u8
+    ensures { λ r. ⌜ r ≡ min x y ⌝ }
+{
     if x < y { x } else { y }
 }
 
-// The level, made less by the sharpness.
-fn sharpened(level: u8, sharp: u8) -> u8 {
-    let part = if 4 < sharp { level / 4 } else { level / 2 };
-    smaller(part, 9 - sharp)
+// Half of the level, or a quarter of it in the sharper half of the scale.
+fn part_of(level: u8, sharp: u8) -> u8
+    ensures { λ r. ⌜ r ≡ level / pick (ltb 4 sharp) 4 2 ⌝ }
+{
+    if 4 < sharp {
+        return level / 4;
+    }
+    level / 2
 }
 
-fn interior_limit(level: u8, sharp: u8) -> u8 {
+fn interior_limit(level: u8, sharp: u8) -> u8
+    requires { ⌜ sharp ≤ 7 ⌝ }
+    ensures { λ r. ⌜ r ≡ interiorOf level sharp ⌝ }
+{
     if sharp == 0 {
         return larger(1, level);
     }
-    larger(1, sharpened(level, sharp))
+    larger(1, smaller(9 - sharp, part_of(level, sharp)))
 }
 
 // High edge variance in a key frame.
-fn hev_limit(level: u8) -> u8 {
+fn hev_limit(level: u8) -> u8
+    ensures { λ r. ⌜ r ≡ hevOf level ⌝ }
+{
     if level < 15 {
         return 0;
     }
@@ -34,22 +52,35 @@ fn hev_limit(level: u8) -> u8 {
     2
 }
 
-fn limits(base: u8, interior: u8, hev: u8) -> Limits {
+// `base` is the level, and 2 more at a macroblock's own edge.
+fn limits(base: u8, level: u8, sharp: u8) -> Limits
+    requires { ⌜ (base ≤ 65) × (level ≤ 63) × (sharp ≤ 7) ⌝ }
+    ensures { λ r. ⌜ r ≡ limitsOf base level sharp ⌝ }
+{
+    let interior = interior_limit(level, sharp);
     Limits {
         edge: base * 2 + interior,
         interior,
-        hev,
+        hev: hev_limit(level),
     }
 }
 
-// Of a level of at most 63 and a sharpness of at most 7; what is above counts as 63 and 7.
-pub fn rule_of(simple: bool, level: u8, sharp: u8) -> Rule {
-    let f = smaller(level, 63);
-    let i = interior_limit(f, smaller(sharp, 7));
-    let h = hev_limit(f);
+fn rule(simple: bool, level: u8, sharp: u8) -> Rule
+    requires { ⌜ (level ≤ 63) × (sharp ≤ 7) ⌝ }
+    ensures { λ r. ⌜ r ≡ ruleOf simple level sharp ⌝ }
+{
+    let outer = limits(level + 2, level, sharp);
+    let inner = limits(level, level, sharp);
     Rule {
-        outer: limits(f + 2, i, h),
-        inner: limits(f, i, h),
+        outer,
+        inner,
         simple,
     }
+}
+
+// The limits of a level of 0 to 63 and a sharpness of 0 to 7; a level above counts as 63, a sharpness above as 7.
+pub fn rule_of(simple: bool, level: u8, sharp: u8) -> Rule
+    ensures { λ r. ⌜ r ≡ ruleOf simple (min level 63) (min sharp 7) ⌝ }
+{
+    rule(simple, smaller(level, 63), smaller(sharp, 7))
 }

@@ -1,0 +1,3 @@
+-- Laws of section 15.
+pub mod Keeps
+pub mod Reach

@@ -1,30 +1,16 @@
+use native.Mathlib.Omega.{arith}
 use borrow.Author.Needs.{needs}
+use Rattle.section15.specs.LoopFilter.{limitsOf}
+use Rattle.filter_limits.proofs.Small.{interior-small}
 use Rattle.filter_limits.proofs.limits.Statement.{statement}
 use Rattle.filter_limits.proofs.limits.Tie as tie
-use Rattle.filter_limits.proofs.limits.Reads as reads
-use Rattle.filter_limits.proofs.limits.Lts as lts
-use Rattle.filter_limits.proofs.hev_limit.Reads as hev-limit-reads
-use Rattle.filter_limits.proofs.interior_limit.Reads as interior-limit-reads
 
--- src/lib.rt:60:9
-interior-limit-requires : tie.Need-interior-limit-requires
-interior-limit-requires c κs = search needs
-
--- src/lib.rt:62:15
-mul-t5 : tie.Need-mul-t5
-mul-t5 c = search needs
-
--- src/lib.rt:62:15
 add-t6 : tie.Need-add-t6
-add-t6 c = ?
+add-t6 c = let s = c .before in omega (arith, c .interior-limit .ensures, interior-small (s .args .level) (s .args .sharp) (s .pre .1))
 
--- src/lib.rt:64:14
-hev-limit-requires : tie.Need-hev-limit-requires
-hev-limit-requires c κs = search needs
-
--- src/lib.rt:56:1
 returns : tie.Need-returns
-returns c = ?
+unfolding limitsOf
+returns c = cc
 
 pub limits-spec : {M : Type 1} → statement M
-limits-spec = tie.close (tie.spec interior-limit-requires mul-t5 add-t6 hev-limit-requires returns)
+limits-spec = tie.close (tie.spec (λ c κs. search needs) (λ c. search needs) add-t6 (λ c κs. search needs) returns)

@@ -7,7 +7,7 @@ use native.Mathlib.Nat.{eq-or-lt-of-le, le-of-suc-le-suc, not-suc-le-zero, le-re
 use native.Mathlib.Omega.{arith}
 use lib.ListN.{length, getD, set, length-set}
 use lib.Seq.{getD-set-same, getD-set-other}
-use Rattle.edge_lines.specs.Turns.{turns, store}
+use Rattle.lists.specs.Lists.{turns, store}
 
 module _ (ix v : ℕ → ℕ) where
   pub length-stores : (n : ℕ) (l : List ℕ) → length (turns n (store ix v) l) ≡ length l

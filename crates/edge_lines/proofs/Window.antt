@@ -12,12 +12,13 @@ use lib.Dec.{eqb}
 use lib.ListN.{length, getD, set, length-set}
 use lib.Seq.{getD-set-same, getD-set-other, ext-getD}
 use borrow.Author.Tests.{eqb-true, eqb-false}
-use Rattle.edge_filters.specs.declared.Across.{Across}
-use Rattle.edge_filters.specs.declared.Limits.{Limits}
-use Rattle.edge_filters.specs.declared.Kind.{Kind}
-use Rattle.edge_filters.specs.Pixels.{filtered}
-use Rattle.edge_lines.specs.Turns.{turns}
-use Rattle.edge_lines.specs.Edge.{taken, laid, crossed, edgeTurn, edge}
+use Rattle.section15.specs.declared.Across.{Across}
+use Rattle.section15.specs.declared.Limits.{Limits}
+use Rattle.section15.specs.declared.Kind.{Kind}
+use Rattle.section15.specs.LoopFilter.{filtered}
+use Rattle.lists.specs.Lists.{turns}
+use Rattle.section15.proofs.Reach.{length-crossed}
+use Rattle.section15.specs.LoopFilter.{taken, laid, crossed, edgeTurn, edge}
 
 same-by : (i j : ℕ) (t : Bool) → eqb i j ≡ t → (i ≡ j) ⊎ (i ≢ j)
 same-by i j true e = inl (eqb-true i j e)
@@ -32,15 +33,6 @@ less-or-not a b (no h) = inl (lt-of-not-le h)
 
 pub lt-or-ge : (a b : ℕ) → (a < b) ⊎ (b ≤ a)
 lt-or-ge a b = less-or-not a b (decLe b a)
-
-length-crossed : (kind : Kind) (l : Limits) (step i : ℕ) (b : List ℕ) → length (crossed kind l step i b) ≡ length b
-unfolding crossed laid
-length-crossed kind l step i b = simp length-set
-
-pub length-edge : (kind : Kind) (l : Limits) (n at step next : ℕ) (b : List ℕ) → length (edge kind l n at step next b) ≡ length b
-unfolding edge turns
-length-edge kind l zero at step next b = refl
-length-edge kind l (suc n) at step next b = length-crossed kind l step _ _ ∙ length-edge kind l n at step next b
 
 module _ (lines a n base step next : ℕ) where
   abbrev pub seat : ℕ → ℕ → ℕ
@@ -227,20 +219,6 @@ module _ (lines a n base step next : ℕ) where
       (λ (h : Off j). out j h ∙ sym (keep j h))
       (at-or-off j))
 
-  -- what is put back from the filtered window is the plane filtered
-  module _ (z : Distinct) (kind : Kind) (l : Limits) (f : ℕ) (high : f + 8 ≤ lines) where
-    pub window-is : (w b c : List ℕ) → Agree w b → length c ≡ length b
-        → ((d k : ℕ) → d < lines → k < n → getD c (place d k) 0 ≡ getD (edge kind l n (seat (f + 4) 0) 16 1 w) (seat d k) 0)
-        → ((j : ℕ) → Off j → getD c j 0 ≡ getD b j 0)
-        → c ≡ edge kind l n (place (f + 4) 0) step next b
-    window-is w b c h size ins out =
-        window-back (edge kind l n (seat (f + 4) 0) 16 1 w) b (edge kind l n (place (f + 4) 0) step next b) c
-        (agree-edge z kind l f n high (le-refl n) w b h)
-        (size ∙ sym (length-edge kind l n (place (f + 4) 0) step next b))
-        ins
-        out
-        (λ j u. off-edge kind l f n high (le-refl n) b j u)
-
   -- an edge of all sixteen lanes, of which n from a on are the plane's: U in lanes 0 to 7, V in lanes 8 to 15
   module _ (z : Distinct) (kind : Kind) (l : Limits) (f : ℕ) (high : f + 8 ≤ lines) where
     skip-at : (w : List ℕ) (t d k : ℕ) → t < 16 → k < n → t ≢ a + k → getD (crossed kind l 16 (16 * (f + 4) + t) w) (seat d k) 0 ≡ getD w (seat d k) 0
@@ -315,3 +293,14 @@ module _ (lines a n base step next : ℕ) where
         → Agree (edge kind l m (16 * (f + 4)) 16 1 w) (edge kind l (min n (m - a)) (place (f + 4) 0) step next b)
     agree-lanes zero q w b h = let e : min n (0 - a) ≡ 0 = omega arith in rw e (none w b h)
     agree-lanes (suc m) q w b h = more m q w b (agree-lanes m (omega arith) w b h)
+
+    pub agree-all : (t q : ℕ) → t ≡ 16 * (f + 4) → q ≡ place (f + 4) 0 → (w b : List ℕ) → Agree w b
+        → Agree (edge kind l 16 t 16 1 w) (edge kind l n q step next b)
+    agree-all t q x y w b h =
+        let fit = z .fit in
+        let e : min n (16 - a) ≡ n = omega arith in
+        rw (x, y)
+        (subst (λ (m : ℕ). Agree (edge kind l 16 (16 * (f + 4)) 16 1 w) (edge kind l m (place (f + 4) 0) step next b)) e (agree-lanes 16 (le-refl 16) w b h))
+
+    pub off-all : (q : ℕ) → q ≡ place (f + 4) 0 → (b : List ℕ) (j : ℕ) → Off j → getD (edge kind l n q step next b) j 0 ≡ getD b j 0
+    off-all q y b j u = rw y (off-edge kind l f n high (le-refl n) b j u)

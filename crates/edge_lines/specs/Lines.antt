@@ -1,36 +1,40 @@
--- Bytes moved between a plane and lines of sixteen. Assumes nothing.
+-- Bytes moved between a plane and lines of sixteen.
 use Prim.Native.Nat.{ℕ, _+_, _*_, _/_, _%_, _<_, _≤_}
 use mathlib.Core.Path.{_≡_}
-use mathlib.Core.Logic.{_≢_}
 use mathlib.Core.List.{List}
-use lib.ListN.{length, getD, set}
-use Rattle.edge_lines.specs.Turns.{turns, tab, store}
+use lib.ListN.{length, getD, set, replicate}
+use Rattle.lists.specs.Lists.{turns, table}
+
+-- all eight pixels across an edge lie in the plane
+pub record Reaches (b : List ℕ) (i step : ℕ) : Type 0 where
+  pub low : 4 * step ≤ i
+  pub high : i + 3 * step < length b
 
 -- n bytes of p from `at` on
 abbrev pub cut : ℕ → ℕ → List ℕ → List ℕ
-cut n at p = tab n (λ k. getD p (at + k) 0)
+cut n at p = table n (λ k. getD p (at + k) 0)
 
--- n bytes put into p from `at` on
+-- the first n bytes of q put into p from `at` on
 abbrev pub putTurn : ℕ → List ℕ → ℕ → List ℕ → List ℕ
 putTurn at q k p = set p (at + k) (getD q k 0)
 
 unfoldable pub pasted : ℕ → ℕ → List ℕ → List ℕ → List ℕ
 pasted n at q p = turns n (putTurn at q) p
 
--- row k of eight bytes put at 8 k
-abbrev pub eightsTurn : List ℕ → ℕ → ℕ → ℕ → List ℕ → List ℕ
-eightsTurn p at stride k o = pasted 8 (8 * k) (cut 8 (at + k * stride) p) o
+-- h rows of w bytes, `stride` apart, lie in p from `at` on
+pub record Fits (w h at stride : ℕ) (p : List ℕ) : Type 0 where
+  pub inside : (k : ℕ) → k < h → at + k * stride + w ≤ length p
 
--- and back into the plane
-abbrev pub layTurn : List ℕ → ℕ → ℕ → ℕ → List ℕ → List ℕ
-layTurn o at stride k p = pasted 8 (at + k * stride) (cut 8 (8 * k) o) p
+-- h rows of w bytes of o, from `from` on and `step` apart, put into p from `at` on and `stride` apart
+abbrev pub rowTurn : ℕ → ℕ → ℕ → ℕ → ℕ → List ℕ → ℕ → List ℕ → List ℕ
+rowTurn w at stride from step o k p = pasted w (at + k * stride) (cut w (from + k * step) o) p
 
-unfoldable pub laidEights : ℕ → ℕ → List ℕ → List ℕ → List ℕ
-laidEights at stride o p = turns 16 (layTurn o at stride) p
+unfoldable pub rowsPut : ℕ → ℕ → ℕ → ℕ → ℕ → ℕ → List ℕ → List ℕ → List ℕ
+rowsPut w h at stride from step o p = turns h (rowTurn w at stride from step o) p
 
--- sixteen rows of eight lie in the plane
-pub record Tall (p : List ℕ) (at stride : ℕ) : Type 0 where
-  pub inside : (k : ℕ) → k < 16 → at + k * stride + 8 ≤ length p
+-- nothing yet: 8 lines, 24 lines
+unfoldable pub zeros : ℕ → List ℕ
+zeros n = replicate n 0
 
 -- the two halves of b, byte by byte in turn
 abbrev pub zipTurn : List ℕ → ℕ → List ℕ → List ℕ
@@ -43,35 +47,3 @@ pub record Zipped (b r : List ℕ) : Type 0 where
 -- r has line d, lane k where b has row k, column d
 pub record Flat (b r : List ℕ) : Type 0 where
   pub is : (d k : ℕ) → d < 8 → k < 16 → getD r (16 * d + k) 0 ≡ getD b (8 * k + d) 0
-
-pub record Rows (p r : List ℕ) (at stride : ℕ) : Type 0 where
-  pub is : (d k : ℕ) → d < 8 → k < 16 → getD r (8 * k + d) 0 ≡ getD p (at + k * stride + d) 0
-
--- and with rows of sixteen that are lines already: an edge across rows
-abbrev pub layLine : List ℕ → ℕ → ℕ → ℕ → List ℕ → List ℕ
-layLine o at stride d p = pasted 16 (at + d * stride) (cut 16 (16 * d) o) p
-
-unfoldable pub laidLines : ℕ → ℕ → List ℕ → List ℕ → List ℕ
-laidLines at stride o p = turns 8 (layLine o at stride) p
-
--- eight rows of sixteen lie in the plane
-pub record Broad (p : List ℕ) (at stride : ℕ) : Type 0 where
-  pub inside : (d : ℕ) → d < 8 → at + d * stride + 16 ≤ length p
-
-pub record Lined (p r : List ℕ) (at stride : ℕ) : Type 0 where
-  pub is : (d k : ℕ) → d < 8 → k < 16 → getD r (16 * d + k) 0 ≡ getD p (at + d * stride + k) 0
-
--- U and V side by side: eight rows of eight of one plane, from byte `from` of 128 on
-pub record Short (p : List ℕ) (at stride : ℕ) : Type 0 where
-  pub inside : (k : ℕ) → k < 8 → at + k * stride + 8 ≤ length p
-
-pub record Half (p o r : List ℕ) (from at stride : ℕ) : Type 0 where
-  pub size : length r ≡ length o
-  pub is : (d k : ℕ) → d < 8 → k < 8 → getD r (from + 8 * k + d) 0 ≡ getD p (at + k * stride + d) 0
-  pub rest : (j : ℕ) → ((i : ℕ) → i < 64 → j ≢ from + i) → getD r j 0 ≡ getD o j 0
-
-abbrev pub layHalf : List ℕ → ℕ → ℕ → ℕ → ℕ → List ℕ → List ℕ
-layHalf o from at stride k p = pasted 8 (at + k * stride) (cut 8 (from + 8 * k) o) p
-
-unfoldable pub laidHalf : ℕ → ℕ → ℕ → List ℕ → List ℕ → List ℕ
-laidHalf from at stride o p = turns 8 (layHalf o from at stride) p

@@ -1,10 +1,10 @@
-// Bytes copied in short runs. The array that is made or read stands in the same function as its loop, so that LLVM sees one move.
+// Bytes copied in rows of eight and of sixteen. The array that is made or read stands in the same function as its loop, so that LLVM sees one move.
 ghost use mathlib.Core.Path.{_≡_};
-ghost use Prim.Native.Nat.{ℕ, _+_, _*_, _≤_, _<_};
+ghost use Prim.Native.Nat.{_+_, _≤_};
 ghost use lib.ListN.{length};
-ghost use Rattle.edge_lines.specs.Lines.{cut, pasted, Tall, Rows, laidEights, Broad, Lined, laidLines};
+ghost use Rattle.edge_lines.specs.Lines.{cut, pasted, Fits, rowsPut, zeros};
 
-pub(crate) fn cut_eight(p: &[u8], at: usize) -> [u8; 8]
+fn cut_eight(p: &[u8], at: usize) -> [u8; 8]
     requires { ⌜ at + 8 ≤ length (now p) ⌝ }
     ensures { λ r. ⌜ r ≡ cut 8 at (now (p .entry)) ⌝ }
 {
@@ -16,7 +16,7 @@ pub(crate) fn cut_eight(p: &[u8], at: usize) -> [u8; 8]
     o
 }
 
-pub(crate) fn put_eight(p: &mut [u8], at: usize, q: [u8; 8])
+fn put_eight(p: &mut [u8], at: usize, q: [u8; 8])
     requires { ⌜ at + 8 ≤ length (now p) ⌝ }
     ensures { λ _. ⌜ now (p .exit) ≡ pasted 8 at q (now (p .entry)) ⌝ }
 {
@@ -26,33 +26,7 @@ pub(crate) fn put_eight(p: &mut [u8], at: usize, q: [u8; 8])
     }
 }
 
-pub(crate) fn blank() -> [u8; 128]
-    ensures { λ r. ⌜ length r ≡ 128 ⌝ }
-{
-    [0u8; 128]
-}
-
-pub(crate) fn eights(p: &[u8], at: usize, stride: usize) -> [u8; 128]
-    requires { ⌜ Tall (now p) at stride ⌝ }
-    ensures { λ r. ⌜ Rows (now (p .entry)) r at stride ⌝ }
-{
-    let mut o = blank();
-    for k in 0..16 {
-        put_eight(&mut o, 8 * k, cut_eight(p, at + k * stride));
-    }
-    o
-}
-
-pub(crate) fn lay_eights(p: &mut [u8], at: usize, stride: usize, o: [u8; 128])
-    requires { ⌜ Tall (now p) at stride ⌝ }
-    ensures { λ _. ⌜ now (p .exit) ≡ laidEights at stride o (now (p .entry)) ⌝ }
-{
-    for k in 0..16 {
-        put_eight(p, at + k * stride, cut_eight(&o, 8 * k));
-    }
-}
-
-pub(crate) fn cut_sixteen(p: &[u8], at: usize) -> [u8; 16]
+fn cut_sixteen(p: &[u8], at: usize) -> [u8; 16]
     requires { ⌜ at + 16 ≤ length (now p) ⌝ }
     ensures { λ r. ⌜ r ≡ cut 16 at (now (p .entry)) ⌝ }
 {
@@ -64,7 +38,7 @@ pub(crate) fn cut_sixteen(p: &[u8], at: usize) -> [u8; 16]
     o
 }
 
-pub(crate) fn put_sixteen(p: &mut [u8], at: usize, q: [u8; 16])
+fn put_sixteen(p: &mut [u8], at: usize, q: [u8; 16])
     requires { ⌜ at + 16 ≤ length (now p) ⌝ }
     ensures { λ _. ⌜ now (p .exit) ≡ pasted 16 at q (now (p .entry)) ⌝ }
 {
@@ -74,22 +48,45 @@ pub(crate) fn put_sixteen(p: &mut [u8], at: usize, q: [u8; 16])
     }
 }
 
-pub(crate) fn rows(p: &[u8], at: usize, stride: usize) -> [u8; 128]
-    requires { ⌜ Broad (now p) at stride ⌝ }
-    ensures { λ r. ⌜ Lined (now (p .entry)) r at stride ⌝ }
+// h rows of eight of o, from `from` on and `step` apart, put into p from `at` on and `stride` apart.
+pub(crate) fn copy_eights(
+    p: &mut [u8],
+    at: usize,
+    stride: usize,
+    o: &[u8],
+    from: usize,
+    step: usize,
+    h: usize,
+)
+    requires { ⌜ (Fits 8 h at stride (now p)) × (Fits 8 h from step (now o)) ⌝ }
+    ensures { λ _. ⌜ now (p .exit) ≡ rowsPut 8 h at stride from step (now (o .entry)) (now (p .entry)) ⌝ }
 {
-    let mut o = blank();
-    for k in 0..8 {
-        put_sixteen(&mut o, 16 * k, cut_sixteen(p, at + k * stride));
+    for k in 0..h {
+        put_eight(p, at + k * stride, cut_eight(o, from + k * step));
     }
-    o
 }
 
-pub(crate) fn lay_rows(p: &mut [u8], at: usize, stride: usize, o: [u8; 128])
-    requires { ⌜ Broad (now p) at stride ⌝ }
-    ensures { λ _. ⌜ now (p .exit) ≡ laidLines at stride o (now (p .entry)) ⌝ }
+// The same with rows of sixteen.
+pub(crate) fn copy_sixteens(
+    p: &mut [u8],
+    at: usize,
+    stride: usize,
+    o: &[u8],
+    from: usize,
+    step: usize,
+    h: usize,
+)
+    requires { ⌜ (Fits 16 h at stride (now p)) × (Fits 16 h from step (now o)) ⌝ }
+    ensures { λ _. ⌜ now (p .exit) ≡ rowsPut 16 h at stride from step (now (o .entry)) (now (p .entry)) ⌝ }
 {
-    for k in 0..8 {
-        put_sixteen(p, at + k * stride, cut_sixteen(&o, 16 * k));
+    for k in 0..h {
+        put_sixteen(p, at + k * stride, cut_sixteen(o, from + k * step));
     }
+}
+
+// Eight lines of sixteen, or sixteen rows of eight.
+pub(crate) fn blank() -> [u8; 128]
+    ensures { λ r. ⌜ r ≡ zeros 128 ⌝ }
+{
+    [0u8; 128]
 }

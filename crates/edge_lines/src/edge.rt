@@ -2,7 +2,8 @@
 ghost use mathlib.Core.Path.{_≡_};
 ghost use Prim.Native.Nat.{ℕ, _+_, _*_, _≤_, _<_};
 ghost use lib.ListN.{length};
-ghost use Rattle.edge_lines.specs.Edge.{Reaches, taken, laid, crossed, edge};
+ghost use Rattle.section15.specs.LoopFilter.{taken, laid, crossed, edge};
+ghost use Rattle.edge_lines.specs.Lines.{Reaches};
 use section15::Across;
 use section15::Kind;
 use section15::Limits;

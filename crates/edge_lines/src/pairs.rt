@@ -1,54 +1,58 @@
-// U and V filtered together: U in lanes 0 to 7, V in lanes 8 to 15.
+// An edge of U and V together: U in lanes 0 to 7, V in lanes 8 to 15.
+ghost use mathlib.Core.Path.{_≡_};
+ghost use Prim.Native.Nat.{_+_, _-_, _*_, _≤_};
+ghost use Rattle.section15.specs.LoopFilter.{edge};
+ghost use Rattle.edge_lines.specs.Lines.{Fits, rowsPut, zeros};
 use crate::copy::blank;
-use crate::copy::cut_eight;
-use crate::copy::put_eight;
+use crate::copy::copy_eights;
 use crate::edge::lines_edge;
-use crate::turn;
+use crate::turn::flat;
+use crate::turn::tall;
 use section15::Kind;
 use section15::Limits;
 
-// Eight rows of eight of the plane p, put into o from byte `from` on, `step` apart.
-fn put_half(o: [u8; 128], from: usize, step: usize, p: &[u8], at: usize, stride: usize) -> [u8; 128] {
-    let mut r = o;
-    for k in 0..8 {
-        put_eight(&mut r, from + k * step, cut_eight(p, at + k * stride));
-    }
-    r
+// Eight rows of eight of U, then of V, from byte `from` on and `step` apart.
+fn pair(u: &[u8], v: &[u8], at: usize, stride: usize, from: usize, step: usize) -> [u8; 128]
+    requires { ⌜ (Fits 8 8 at stride (now u)) × (Fits 8 8 at stride (now v)) × (from + 7 * step + 8 ≤ 128) ⌝ }
+    ensures { λ r. ⌜ r ≡ rowsPut 8 8 from step at stride (now (v .entry)) (rowsPut 8 8 0 step at stride (now (u .entry)) (zeros 128)) ⌝ }
+{
+    let mut e = blank();
+    copy_eights(&mut e, 0, step, u, at, stride, 8);
+    copy_eights(&mut e, from, step, v, at, stride, 8);
+    e
 }
 
-// And back.
-fn lay_half(p: &mut [u8], at: usize, stride: usize, o: [u8; 128], from: usize, step: usize) {
-    for k in 0..8 {
-        put_eight(p, at + k * stride, cut_eight(&o, from + k * step));
-    }
-}
-
-pub(crate) fn upright_pair(u: &mut [u8], v: &mut [u8], at: usize, stride: usize, kind: Kind, l: Limits) {
-    let e = put_half(
-        put_half(blank(), 0, 8, u, at - 4, stride),
-        64,
-        8,
-        v,
-        at - 4,
-        stride,
-    );
-    let mut b = turn::flat(e);
+pub(crate) fn upright_pair(
+    u: &mut [u8],
+    v: &mut [u8],
+    at: usize,
+    stride: usize,
+    kind: Kind,
+    l: Limits,
+)
+    requires { ⌜ (4 ≤ at) × (8 ≤ stride) × (Fits 8 8 (at - 4) stride (now u)) × (Fits 8 8 (at - 4) stride (now v)) ⌝ }
+    ensures { λ _. ⌜ (now (u .exit) ≡ edge kind l 8 at 1 stride (now (u .entry))) × (now (v .exit) ≡ edge kind l 8 at 1 stride (now (v .entry))) ⌝ }
+{
+    let mut b = flat(pair(u, v, at - 4, stride, 64, 8));
     lines_edge(&mut b, 64, kind, l);
-    let o = turn::tall(b);
-    lay_half(u, at - 4, stride, o, 0, 8);
-    lay_half(v, at - 4, stride, o, 64, 8);
+    let o = tall(b);
+    copy_eights(u, at - 4, stride, &o, 0, 8, 8);
+    copy_eights(v, at - 4, stride, &o, 64, 8, 8);
 }
 
-pub(crate) fn level_pair(u: &mut [u8], v: &mut [u8], at: usize, stride: usize, kind: Kind, l: Limits) {
-    let mut b = put_half(
-        put_half(blank(), 0, 16, u, at - 4 * stride, stride),
-        8,
-        16,
-        v,
-        at - 4 * stride,
-        stride,
-    );
+pub(crate) fn level_pair(
+    u: &mut [u8],
+    v: &mut [u8],
+    at: usize,
+    stride: usize,
+    kind: Kind,
+    l: Limits,
+)
+    requires { ⌜ (4 * stride ≤ at) × (8 ≤ stride) × (Fits 8 8 (at - 4 * stride) stride (now u)) × (Fits 8 8 (at - 4 * stride) stride (now v)) ⌝ }
+    ensures { λ _. ⌜ (now (u .exit) ≡ edge kind l 8 at stride 1 (now (u .entry))) × (now (v .exit) ≡ edge kind l 8 at stride 1 (now (v .entry))) ⌝ }
+{
+    let mut b = pair(u, v, at - 4 * stride, stride, 8, 16);
     lines_edge(&mut b, 64, kind, l);
-    lay_half(u, at - 4 * stride, stride, b, 0, 16);
-    lay_half(v, at - 4 * stride, stride, b, 8, 16);
+    copy_eights(u, at - 4 * stride, stride, &b, 0, 16, 8);
+    copy_eights(v, at - 4 * stride, stride, &b, 8, 16, 8);
 }

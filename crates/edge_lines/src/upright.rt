@@ -1,20 +1,32 @@
-// An upright edge of sixteen rows.
+// An upright edge of sixteen rows: eight columns as eight lines.
 ghost use mathlib.Core.Path.{_≡_};
-ghost use Prim.Native.Nat.{ℕ, _+_, _-_, _*_, _≤_, _<_};
-ghost use lib.ListN.{length};
-ghost use Rattle.edge_lines.specs.Edge.{edge};
-ghost use Rattle.edge_lines.specs.Lines.{Tall};
-use crate::copy;
+ghost use Prim.Native.Nat.{_-_, _≤_};
+ghost use Rattle.section15.specs.LoopFilter.{edge};
+ghost use Rattle.edge_lines.specs.Lines.{Fits, rowsPut, zeros};
+use crate::copy::blank;
+use crate::copy::copy_eights;
 use crate::edge::lines_edge;
-use crate::turn;
+use crate::turn::flat;
+use crate::turn::tall;
 use section15::Kind;
 use section15::Limits;
 
+// Sixteen rows of eight.
+fn eights(y: &[u8], at: usize, stride: usize) -> [u8; 128]
+    requires { ⌜ Fits 8 16 at stride (now y) ⌝ }
+    ensures { λ r. ⌜ r ≡ rowsPut 8 16 0 8 at stride (now (y .entry)) (zeros 128) ⌝ }
+{
+    let mut e = blank();
+    copy_eights(&mut e, 0, 8, y, at, stride, 16);
+    e
+}
+
 pub(crate) fn upright_edge(y: &mut [u8], at: usize, stride: usize, kind: Kind, l: Limits)
-    requires { ⌜ (4 ≤ at) × (8 ≤ stride) × (Tall (now y) (at - 4) stride) ⌝ }
+    requires { ⌜ (4 ≤ at) × (8 ≤ stride) × (Fits 8 16 (at - 4) stride (now y)) ⌝ }
     ensures { λ _. ⌜ now (y .exit) ≡ edge kind l 16 at 1 stride (now (y .entry)) ⌝ }
 {
-    let mut b = turn::flat(copy::eights(y, at - 4, stride));
+    let mut b = flat(eights(y, at - 4, stride));
     lines_edge(&mut b, 64, kind, l);
-    copy::lay_eights(y, at - 4, stride, turn::tall(b));
+    let o = tall(b);
+    copy_eights(y, at - 4, stride, &o, 0, 8, 16);
 }

@@ -2,7 +2,9 @@ use Prim.Native.Nat.{ℕ, _≤_, _-_, _+_, _*_}
 use mathlib.Core.Path.{_≡_, refl, _∙_}
 use native.Mathlib.Omega.{arith}
 use lib.ListN.{length, getD, length-set}
-use Rattle.edge_lines.specs.Turns.{turns, store, turns-step, turns-done, tab-all}
+use Rattle.lists.specs.Lists.{turns, store}
+use Rattle.lists.proofs.Turns.{turns-step, turns-done}
+use Rattle.lists.proofs.Table.{table-all}
 use Rattle.edge_lines.proofs.copy.cut_eight.Statement.{statement}
 use Rattle.edge_lines.proofs.copy.cut_eight.Tie as tie
 
@@ -22,7 +24,7 @@ loop-again c =
     (omega arith, simp length-set (i .1), turns-step _ _ _ _ _ (i .2) refl)
 
 returns : tie.Need-returns Inv-loop μ-loop
-returns c = turns-done _ _ _ _ _ (c .before .loop .inv .2) (c .before .loop .inv .0) (c .loop-test .left) ∙ tab-all 8 _ _ refl
+returns c = turns-done _ _ _ _ _ (c .before .loop .inv .2) (c .before .loop .inv .0) (c .loop-test .left) ∙ table-all 8 _ _ refl
 
 pub cut-eight-spec : {M : Type 1} → statement M
 cut-eight-spec =

@@ -2,7 +2,8 @@ use Prim.Native.Nat.{ℕ, _≤_, _-_, _+_, _*_}
 use mathlib.Core.Path.{_≡_, refl, _∙_}
 use native.Mathlib.Omega.{arith}
 use lib.ListN.{length, getD, length-set}
-use Rattle.edge_lines.specs.Turns.{turns, turns-step, turns-done}
+use Rattle.lists.specs.Lists.{turns}
+use Rattle.lists.proofs.Turns.{turns-step, turns-done}
 use Rattle.edge_lines.specs.Lines.{putTurn, pasted}
 use Rattle.edge_lines.proofs.copy.put_eight.Statement.{statement}
 use Rattle.edge_lines.proofs.copy.put_eight.Tie as tie

@@ -1,0 +1,28 @@
+-- A macroblock's edges in one direction, where it lies in its plane.
+use Prim.Native.Nat.{ℕ, _+_, _*_, _<_, _≤_}
+use mathlib.Core.Path.{_≡_}
+use mathlib.Core.Bool.{Bool}
+use mathlib.Core.List.{List}
+use lib.Dec.{leb, ltb}
+use lib.ListN.{length}
+use Rattle.lists.specs.Lists.{pick, both}
+use Rattle.section15.specs.declared.Rule.{Rule}
+use Rattle.section15.specs.LoopFilter.{side, corner}
+
+-- a square of n by n pixels lies in the plane, and its rows do not meet
+pub record Square (b : List ℕ) (n at stride : ℕ) : Type 0 where
+  pub wide : n ≤ stride
+  pub inside : (k : ℕ) → k < n → at + k * stride + n ≤ length b
+
+-- macroblock c of row r, of n pixels a side, lies in a plane of `size` bytes with `cols` macroblocks a row, no more than 1,024 in either direction
+unfoldable pub seated : ℕ → ℕ → ℕ → ℕ → ℕ → Bool
+seated n size cols r c = both (leb cols 1024) (both (ltb r 1024) (both (ltb c cols) (leb ((r + 1) * n * (n * cols)) size)))
+
+-- its upright edges, and its level ones; nothing where it does not lie there
+unfoldable pub uprightAt : Rule → ℕ → ℕ → ℕ → ℕ → Bool → List ℕ → List ℕ
+uprightAt rule n cols r c inner b =
+    pick (seated n (length b) cols r c) (side rule n (corner n cols r c) 1 (n * cols) (ltb 0 c) inner b) b
+
+unfoldable pub levelAt : Rule → ℕ → ℕ → ℕ → ℕ → Bool → List ℕ → List ℕ
+levelAt rule n cols r c inner b =
+    pick (seated n (length b) cols r c) (side rule n (corner n cols r c) (n * cols) 1 (ltb 0 r) inner b) b

@@ -26,3 +26,17 @@ uprightAt rule n cols r c inner b =
 unfoldable pub levelAt : Rule → ℕ → ℕ → ℕ → ℕ → Bool → List ℕ → List ℕ
 levelAt rule n cols r c inner b =
     pick (seated n (length b) cols r c) (side rule n (corner n cols r c) (n * cols) 1 (ltb 0 r) inner b) b
+
+-- the same in U and V, where it lies in both
+abbrev pub bothSeated : ℕ → ℕ → ℕ → List ℕ → List ℕ → Bool
+bothSeated cols r c u v = both (seated 8 (length u) cols r c) (seated 8 (length v) cols r c)
+
+unfoldable pub uprightPair : Rule → ℕ → ℕ → ℕ → Bool → List ℕ → List ℕ → List ℕ × List ℕ
+uprightPair rule cols r c inner u v =
+    let f : List ℕ → List ℕ = side rule 8 (corner 8 cols r c) 1 (8 * cols) (ltb 0 c) inner in
+    pick (bothSeated cols r c u v) (f u, f v) (u, v)
+
+unfoldable pub levelPair : Rule → ℕ → ℕ → ℕ → Bool → List ℕ → List ℕ → List ℕ × List ℕ
+levelPair rule cols r c inner u v =
+    let f : List ℕ → List ℕ = side rule 8 (corner 8 cols r c) (8 * cols) 1 (ltb 0 r) inner in
+    pick (bothSeated cols r c u v) (f u, f v) (u, v)

@@ -1,9 +1,59 @@
-// The loop filter of RFC 6386, section 15, over a finished still.
+// The loop filter of RFC 6386, section 15, over a finished still. Prediction uses unfiltered pixels: the filter starts when the still is done.
+//
+// A macroblock's edges in their order, in Y (in U and V one inner edge a direction): 1 and 5 only where a macroblock lies beyond, 2 to 4 and 6 to 8 only
+// where its inner edges are filtered.
+//
+//          1    2    3    4
+//        5 +----------------
+//          |    |    |    |
+//        6 |----+----+----+-
+//          |    |    |    |
+//        7 |----+----+----+-
+//          |    |    |    |
+//        8 |----+----+----+-
+//          |    |    |    |
+ghost use mathlib.Core.Path.{_≡_};
+ghost use mathlib.Core.Bool.{true, false};
+ghost use mathlib.Core.List.{[]};
+ghost use Prim.Native.Nat.{_*_, _≤_, _<_};
+ghost use lib.Dec.{ltb, leb};
+ghost use lib.ListN.{length};
+ghost use Rattle.lists.specs.Lists.{pick, both};
+ghost use Rattle.section15.specs.LoopFilter.{sides, corner, mbOf, lumaRow, chromaRow, lumaOf, chromaOf};
+ghost use Rattle.edge_lines.specs.Sides.{seated};
+ghost use Rattle.loop_filter.specs.Picture.{levelAt, levelsOk, Ready};
+ghost use Rattle.loop_filter.specs.Answers.{refusalOf, filterAnswer, levelsAnswer};
 use macroblock::reply;
+use section15::Rule;
 
-const OUTSIDE_LEVELS: u32 = 11;
+// The edges of macroblock c of row r in Y: the upright ones from left to right, then the level ones from top to bottom.
+fn luma_edges(y: &mut [u8], cols: usize, r: usize, c: usize, inner: bool, rule: Rule)
+    requires { ⌜ seated 16 (length (now y)) cols r c ≡ true ⌝ }
+    ensures { λ _. ⌜ now (y .exit) ≡ sides rule 16 (16 * cols) (corner 16 cols r c) (ltb 0 c) (ltb 0 r) inner (now (y .entry)) ⌝ }
+{
+    edge_lines::upright_luma(y, cols, r, c, inner, rule);
+    edge_lines::level_luma(y, cols, r, c, inner, rule);
+}
 
-// A macroblock: its upright edges from left to right, then its level ones from top to bottom; the simple filter leaves U and V alone.
+// The same in U and V.
+fn chroma_edges(
+    u: &mut [u8],
+    v: &mut [u8],
+    cols: usize,
+    r: usize,
+    c: usize,
+    inner: bool,
+    rule: Rule,
+)
+    requires { ⌜ (seated 8 (length (now u)) cols r c ≡ true) × (seated 8 (length (now v)) cols r c ≡ true) ⌝ }
+    ensures { λ _. ⌜ (now (u .exit) ≡ sides rule 8 (8 * cols) (corner 8 cols r c) (ltb 0 c) (ltb 0 r) inner (now (u .entry)))
+        × (now (v .exit) ≡ sides rule 8 (8 * cols) (corner 8 cols r c) (ltb 0 c) (ltb 0 r) inner (now (v .entry))) ⌝ }
+{
+    edge_lines::upright_chroma(u, v, cols, r, c, inner, rule);
+    edge_lines::level_chroma(u, v, cols, r, c, inner, rule);
+}
+
+// Macroblock c of row r in the three planes. Level 0 filters nothing, and the simple filter leaves U and V alone.
 fn filter_macroblock(
     y: &mut [u8],
     u: &mut [u8],
@@ -15,21 +65,29 @@ fn filter_macroblock(
     level: u8,
     sharp: u8,
     inner: bool,
-) {
+)
+    requires { ⌜ (level ≤ 63) × (sharp ≤ 7) × (seated 16 (length (now y)) cols r c ≡ true)
+        × (seated 8 (length (now u)) cols r c ≡ true) × (seated 8 (length (now v)) cols r c ≡ true) ⌝ }
+    ensures { λ _. ⌜ (now (y .exit) ≡ mbOf simple level sharp inner 16 cols r c (now (y .entry)))
+        × (now (u .exit) ≡ pick simple (now (u .entry)) (mbOf simple level sharp inner 8 cols r c (now (u .entry))))
+        × (now (v .exit) ≡ pick simple (now (v .entry)) (mbOf simple level sharp inner 8 cols r c (now (v .entry)))) ⌝ }
+{
     if level == 0 {
         return;
     }
     let rule = filter_limits::rule_of(simple, level, sharp);
-    edge_lines::upright_luma(y, cols, r, c, inner, rule);
-    edge_lines::level_luma(y, cols, r, c, inner, rule);
+    luma_edges(y, cols, r, c, inner, rule);
     if simple {
         return;
     }
-    edge_lines::upright_chroma(u, v, cols, r, c, inner, rule);
-    edge_lines::level_chroma(u, v, cols, r, c, inner, rule);
+    chroma_edges(u, v, cols, r, c, inner, rule);
 }
 
-fn level_at(one: bool, level: u8, levels: &[u8], k: usize) -> u8 {
+// One level for the picture, or the level of macroblock k.
+fn level_at(one: bool, level: u8, levels: &[u8], k: usize) -> u8
+    requires { ⌜ (one ≡ false → k < length (now levels)) ⌝ }
+    ensures { λ r. ⌜ r ≡ levelAt one level (now (levels .entry)) k ⌝ }
+{
     if one {
         return level;
     }
@@ -41,18 +99,26 @@ fn filter_row(
     u: &mut [u8],
     v: &mut [u8],
     cols: usize,
+    rows: usize,
     r: usize,
     simple: bool,
+    sharp: u8,
     one: bool,
     level: u8,
     levels: &[u8],
-    sharp: u8,
     inner: &[u8],
-) {
+)
+    requires { ⌜ (Ready cols rows sharp (levelAt one level (now levels)) (now inner) (now y) (now u) (now v))
+        × (one ≡ false → length (now levels) ≡ cols * rows) × (r < rows) ⌝ }
+    ensures { λ _. ⌜ (now (y .exit) ≡ lumaRow simple sharp (levelAt one level (now (levels .entry))) (now (inner .entry)) cols r (now (y .entry)))
+        × (now (u .exit) ≡ chromaRow simple sharp (levelAt one level (now (levels .entry))) (now (inner .entry)) cols r (now (u .entry)))
+        × (now (v .exit) ≡ chromaRow simple sharp (levelAt one level (now (levels .entry))) (now (inner .entry)) cols r (now (v .entry))) ⌝ }
+{
     for c in 0..cols {
         let k = r * cols + c;
         let f = level_at(one, level, levels, k);
-        filter_macroblock(y, u, v, cols, r, c, simple, f, sharp, inner[k] != 0);
+        let i = inner[k];
+        filter_macroblock(y, u, v, cols, r, c, simple, f, sharp, 0 < i);
     }
 }
 
@@ -63,41 +129,89 @@ fn filter_rows(
     cols: usize,
     rows: usize,
     simple: bool,
+    sharp: u8,
     one: bool,
     level: u8,
     levels: &[u8],
-    sharp: u8,
     inner: &[u8],
-) {
+)
+    requires { ⌜ (Ready cols rows sharp (levelAt one level (now levels)) (now inner) (now y) (now u) (now v))
+        × (one ≡ false → length (now levels) ≡ cols * rows) ⌝ }
+    ensures { λ _. ⌜ (now (y .exit) ≡ lumaOf simple sharp (levelAt one level (now (levels .entry))) (now (inner .entry)) cols rows (now (y .entry)))
+        × (now (u .exit) ≡ chromaOf simple sharp (levelAt one level (now (levels .entry))) (now (inner .entry)) cols rows (now (u .entry)))
+        × (now (v .exit) ≡ chromaOf simple sharp (levelAt one level (now (levels .entry))) (now (inner .entry)) cols rows (now (v .entry))) ⌝ }
+{
     for r in 0..rows {
-        filter_row(y, u, v, cols, r, simple, one, level, levels, sharp, inner);
+        filter_row(
+            y, u, v, cols, rows, r, simple, sharp, one, level, levels, inner,
+        );
     }
+}
+
+fn within(ok: bool, level: u8) -> bool
+    ensures { λ r. ⌜ r ≡ both ok (leb level 63) ⌝ }
+{
+    if ok {
+        return level <= 63;
+    }
+    false
 }
 
 // Whether each level is at most 63.
-fn levels_ok(levels: &[u8]) -> bool {
-    for k in 0..levels.len() {
-        if 63 < levels[k] {
-            return false;
-        }
+fn levels_ok(levels: &[u8]) -> bool
+    ensures { λ r. ⌜ r ≡ levelsOk (now (levels .entry)) ⌝ }
+{
+    let mut ok = true;
+    let n = levels.len();
+    for k in 0..n {
+        ok = within(ok, levels[k]);
     }
-    true
+    ok
 }
 
-// The refusal of a picture that does not fit, else 0.
-fn tested(cols: usize, rows: usize, y: usize, u: usize, v: usize, inner: usize) -> u32 {
+// The refusal of a picture by its size, the lengths of its slices, whether its levels are at most 63, its sharpness and its kind; 0 for none.
+fn refusal(
+    cols: usize,
+    rows: usize,
+    y: usize,
+    u: usize,
+    v: usize,
+    inner: usize,
+    levels: usize,
+    low: bool,
+    sharp: u8,
+    kind: u8,
+) -> u32
+    ensures { λ r. ⌜ r ≡ refusalOf cols rows y u v inner levels low sharp kind ⌝ }
+{
     if !picture_limits::place_ok(cols, rows, 0, 0) {
         return reply::OUTSIDE_PICTURE;
     }
     if !picture_limits::sizes_ok(y, u, v, cols, rows) {
         return reply::WRONG_LENGTH;
     }
-    if inner != cols * rows {
+    let n = cols * rows;
+    if inner != n {
         return reply::WRONG_LENGTH;
+    }
+    if levels != n {
+        return reply::WRONG_LENGTH;
+    }
+    if !low {
+        return 11;
+    }
+    if 7 < sharp {
+        return 11;
+    }
+    if 1 < kind {
+        return reply::UNKNOWN_BYTE;
     }
     reply::DONE
 }
 
+// Filters the planes of a finished still in place, with one level for the picture: `kind` 0 is the normal filter, 1 the simple one; `inner` has a byte a
+// macroblock, 0 where its inner edges are left alone. Refused: a side that is not 1 to 1,024 (reply 7), then a slice of another length (1), then a level
+// above 63 or a sharpness above 7 (11), then another kind (8); the planes then stay as found.
 pub fn filter(
     cols: usize,
     rows: usize,
@@ -108,24 +222,42 @@ pub fn filter(
     y: &mut [u8],
     u: &mut [u8],
     v: &mut [u8],
-) -> u32 {
-    let fit = tested(cols, rows, y.len(), u.len(), v.len(), inner.len());
-    if fit != reply::DONE {
-        return fit;
+) -> u32
+    ensures { λ r. ⌜ (r, now (y .exit), now (u .exit), now (v .exit))
+        ≡ filterAnswer cols rows kind level sharpness (now (inner .entry)) (now (y .entry)) (now (u .entry)) (now (v .entry)) ⌝ }
+{
+    let number = refusal(
+        cols,
+        rows,
+        y.len(),
+        u.len(),
+        v.len(),
+        inner.len(),
+        inner.len(),
+        level <= 63,
+        sharpness,
+        kind,
+    );
+    if number != reply::DONE {
+        return number;
     }
-    if 63 < level {
-        return OUTSIDE_LEVELS;
-    }
-    if 7 < sharpness {
-        return OUTSIDE_LEVELS;
-    }
-    if 1 < kind {
-        return reply::UNKNOWN_BYTE;
-    }
-    filter_rows(y, u, v, cols, rows, kind == 1, true, level, inner, sharpness, inner);
+    filter_rows(
+        y,
+        u,
+        v,
+        cols,
+        rows,
+        kind == 1,
+        sharpness,
+        true,
+        level,
+        &[],
+        inner,
+    );
     reply::DONE
 }
 
+// The same with a level for each macroblock; level 0 leaves it as it is.
 pub fn filter_levels(
     cols: usize,
     rows: usize,
@@ -136,23 +268,37 @@ pub fn filter_levels(
     y: &mut [u8],
     u: &mut [u8],
     v: &mut [u8],
-) -> u32 {
-    let fit = tested(cols, rows, y.len(), u.len(), v.len(), inner.len());
-    if fit != reply::DONE {
-        return fit;
+) -> u32
+    ensures { λ r. ⌜ (r, now (y .exit), now (u .exit), now (v .exit))
+        ≡ levelsAnswer cols rows kind sharpness (now (levels .entry)) (now (inner .entry)) (now (y .entry)) (now (u .entry)) (now (v .entry)) ⌝ }
+{
+    let number = refusal(
+        cols,
+        rows,
+        y.len(),
+        u.len(),
+        v.len(),
+        inner.len(),
+        levels.len(),
+        levels_ok(levels),
+        sharpness,
+        kind,
+    );
+    if number != reply::DONE {
+        return number;
     }
-    if levels.len() != inner.len() {
-        return reply::WRONG_LENGTH;
-    }
-    if !levels_ok(levels) {
-        return OUTSIDE_LEVELS;
-    }
-    if 7 < sharpness {
-        return OUTSIDE_LEVELS;
-    }
-    if 1 < kind {
-        return reply::UNKNOWN_BYTE;
-    }
-    filter_rows(y, u, v, cols, rows, kind == 1, false, 0, levels, sharpness, inner);
+    filter_rows(
+        y,
+        u,
+        v,
+        cols,
+        rows,
+        kind == 1,
+        sharpness,
+        false,
+        0,
+        levels,
+        inner,
+    );
     reply::DONE
 }

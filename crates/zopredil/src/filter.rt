@@ -1,4 +1,6 @@
 // The loop filter's calls.
+ghost use mathlib.Core.Path.{_≡_};
+ghost use Rattle.loop_filter.specs.Answers.{filterAnswer, levelsAnswer};
 
 #[no_mangle]
 pub extern "C" fn zopredil_filter(
@@ -11,7 +13,10 @@ pub extern "C" fn zopredil_filter(
     y: &mut [u8],
     u: &mut [u8],
     v: &mut [u8],
-) -> u32 {
+) -> u32
+    ensures { λ r. ⌜ (r, now (y .exit), now (u .exit), now (v .exit))
+        ≡ filterAnswer cols rows kind level sharpness (now (inner .entry)) (now (y .entry)) (now (u .entry)) (now (v .entry)) ⌝ }
+{
     loop_filter::filter(cols, rows, kind, level, sharpness, inner, y, u, v)
 }
 
@@ -26,6 +31,9 @@ pub extern "C" fn zopredil_filter_levels(
     y: &mut [u8],
     u: &mut [u8],
     v: &mut [u8],
-) -> u32 {
+) -> u32
+    ensures { λ r. ⌜ (r, now (y .exit), now (u .exit), now (v .exit))
+        ≡ levelsAnswer cols rows kind sharpness (now (levels .entry)) (now (inner .entry)) (now (y .entry)) (now (u .entry)) (now (v .entry)) ⌝ }
+{
     loop_filter::filter_levels(cols, rows, kind, sharpness, levels, inner, y, u, v)
 }

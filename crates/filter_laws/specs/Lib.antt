@@ -1,0 +1,1 @@
+-- The theorems cite the definitions of `section15` and `loop_filter`.

@@ -11,7 +11,7 @@ use lib.ListN.{length, getD}
 use Rattle.lists.specs.Lists.{pick}
 use Rattle.macroblock.specs.Reply.{done}
 use Rattle.section15.specs.LoopFilter.{lumaOf, chromaOf}
-use Rattle.loop_filter.specs.Picture.{levelAt, levelsOk}
+use Rattle.loop_filter.specs.Picture.{levelOf, levelsOk}
 use Rattle.loop_filter.specs.Answers.{refusalOf, Planes, filteredPlanes, levelsAnswer}
 use Rattle.filter_laws.proofs.Planes.{AwayFromAll, luma-keeps, chroma-keeps, simple-chroma}
 
@@ -24,20 +24,20 @@ whole f true a b e = e
 whole f false a b e = refl
 
 module _ (cols rows kind sharp : ℕ) (levels inner y u v : List ℕ) where
-  pub luma-kept : (j : ℕ) → AwayFromAll (eqb kind 1) sharp (levelAt false 0 levels) inner cols rows 16 j
-      → getD (levelsAnswer cols rows kind sharp levels inner y u v .1 .0) j 0 ≡ getD y j 0
+  pub luma-kept : (j : ℕ) → AwayFromAll (eqb kind 1) sharp (levelOf false 0 levels) inner cols rows 16 j
+      → getD (levelsAnswer cols rows kind sharp levels inner y u v .1) j 0 ≡ getD y j 0
   unfolding levelsAnswer filteredPlanes
-  luma-kept j h = picked (λ p. p .0) j _ _ (y, u, v) (luma-keeps (eqb kind 1) sharp (levelAt false 0 levels) inner cols rows j h y)
+  luma-kept j h = picked (λ p. p .0) j _ _ (y, u, v) (luma-keeps (eqb kind 1) sharp (levelOf false 0 levels) inner cols rows j h y)
 
-  pub u-kept : (j : ℕ) → AwayFromAll (eqb kind 1) sharp (levelAt false 0 levels) inner cols rows 8 j
-      → getD (levelsAnswer cols rows kind sharp levels inner y u v .1 .1 .0) j 0 ≡ getD u j 0
+  pub u-kept : (j : ℕ) → AwayFromAll (eqb kind 1) sharp (levelOf false 0 levels) inner cols rows 8 j
+      → getD (levelsAnswer cols rows kind sharp levels inner y u v .2) j 0 ≡ getD u j 0
   unfolding levelsAnswer filteredPlanes
-  u-kept j h = picked (λ p. p .1 .0) j _ _ (y, u, v) (chroma-keeps (eqb kind 1) sharp (levelAt false 0 levels) inner cols rows j h u)
+  u-kept j h = picked (λ p. p .1) j _ _ (y, u, v) (chroma-keeps (eqb kind 1) sharp (levelOf false 0 levels) inner cols rows j h u)
 
-  pub v-kept : (j : ℕ) → AwayFromAll (eqb kind 1) sharp (levelAt false 0 levels) inner cols rows 8 j
-      → getD (levelsAnswer cols rows kind sharp levels inner y u v .1 .1 .1) j 0 ≡ getD v j 0
+  pub v-kept : (j : ℕ) → AwayFromAll (eqb kind 1) sharp (levelOf false 0 levels) inner cols rows 8 j
+      → getD (levelsAnswer cols rows kind sharp levels inner y u v .3) j 0 ≡ getD v j 0
   unfolding levelsAnswer filteredPlanes
-  v-kept j h = picked (λ p. p .1 .1) j _ _ (y, u, v) (chroma-keeps (eqb kind 1) sharp (levelAt false 0 levels) inner cols rows j h v)
+  v-kept j h = picked (λ p. p .2) j _ _ (y, u, v) (chroma-keeps (eqb kind 1) sharp (levelOf false 0 levels) inner cols rows j h v)
 
   pub refused-kept : eqb (levelsAnswer cols rows kind sharp levels inner y u v .0) done ≡ false → levelsAnswer cols rows kind sharp levels inner y u v .1 ≡ (y, u, v)
   unfolding levelsAnswer
@@ -47,7 +47,7 @@ module _ (cols rows sharp : ℕ) (levels inner y u v : List ℕ) where
   pub simple-kept : (levelsAnswer cols rows 1 sharp levels inner y u v .1 .1) ≡ (u, v)
   unfolding levelsAnswer filteredPlanes
   simple-kept =
-      by _ (rw (simple-chroma sharp (levelAt false 0 levels) inner cols rows u, simple-chroma sharp (levelAt false 0 levels) inner cols rows v))
+      by _ (rw (simple-chroma sharp (levelOf false 0 levels) inner cols rows u, simple-chroma sharp (levelOf false 0 levels) inner cols rows v))
     where
       by : (t : Bool) {a : Planes} → a .1 ≡ (u, v) → pick t a (y, u, v) .1 ≡ (u, v)
       by true e = e

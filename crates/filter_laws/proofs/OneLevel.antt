@@ -15,7 +15,7 @@ use Rattle.macroblock.specs.Reply.{done}
 use Rattle.rfc6386.specs.Picture.{placeOk, sizesOk}
 use Rattle.picture_limits.proofs.Accepted.{place-says}
 use Rattle.section15.specs.LoopFilter.{lumaOf, chromaOf}
-use Rattle.loop_filter.specs.Picture.{levelAt, levelTurn, levelsOk}
+use Rattle.loop_filter.specs.Picture.{levelOf, levelTurn, levelsOk}
 use Rattle.loop_filter.specs.Answers.{fits, refusalOf, Planes, filteredPlanes, answered, filterAnswer, levelsAnswer}
 use Rattle.filter_laws.proofs.Planes.{luma-ext, chroma-ext}
 
@@ -58,17 +58,17 @@ module _ (cols rows kind level sharp : ℕ) (inner y u v : List ℕ) where
       let m : cols * rows ≡ suc (cols * rows - 1) = omega arith in
       rw (all-ok (cols * rows) level (cols * rows - 1) m, eq-eqb (length (all (cols * rows) level)) (cols * rows) (length-all (cols * rows) level), halves (eqb (length inner) (cols * rows)))
 
-  same-level : (k : ℕ) → k < cols * rows → levelAt true level [] k ≡ levelAt false 0 (all (cols * rows) level) k
-  unfolding levelAt
+  same-level : (k : ℕ) → k < cols * rows → (λ k. level) k ≡ levelOf false 0 (all (cols * rows) level) k
+  unfolding levelOf
   same-level k p = sym (all-at (cols * rows) level k p)
 
-  same-planes : (s : Bool) → filteredPlanes s sharp (levelAt true level []) inner cols rows (y, u, v) ≡ filteredPlanes s sharp (levelAt false 0 (all (cols * rows) level)) inner cols rows (y, u, v)
+  same-planes : (s : Bool) → filteredPlanes s sharp (λ k. level) inner cols rows (y, u, v) ≡ filteredPlanes s sharp (levelOf false 0 (all (cols * rows) level)) inner cols rows (y, u, v)
   unfolding filteredPlanes
   same-planes s =
       rw (
-        luma-ext s sharp (levelAt true level []) (levelAt false 0 (all (cols * rows) level)) inner cols rows same-level y,
-        chroma-ext s sharp (levelAt true level []) (levelAt false 0 (all (cols * rows) level)) inner cols rows same-level u,
-        chroma-ext s sharp (levelAt true level []) (levelAt false 0 (all (cols * rows) level)) inner cols rows same-level v,
+        luma-ext s sharp (λ k. level) (levelOf false 0 (all (cols * rows) level)) inner cols rows same-level y,
+        chroma-ext s sharp (λ k. level) (levelOf false 0 (all (cols * rows) level)) inner cols rows same-level u,
+        chroma-ext s sharp (λ k. level) (levelOf false 0 (all (cols * rows) level)) inner cols rows same-level v,
       )
 
   pub one-level-is : filterAnswer cols rows kind level sharp inner y u v ≡ levelsAnswer cols rows kind sharp (all (cols * rows) level) inner y u v

@@ -1,15 +1,15 @@
 -- What the filter calls answer: 7 for a size outside 1 to 1,024 macroblocks a side, then 1 for a slice of another length, then 11 for a level above 63 or
 -- a sharpness above 7, then 8 for a kind that is neither 0, the normal filter, nor 1, the simple one; the planes then stay as found. Else 0, and the planes filtered.
 use Prim.Native.Nat.{ℕ, _*_}
-use mathlib.Core.Bool.{Bool, true, false}
-use mathlib.Core.List.{List, []}
+use mathlib.Core.Bool.{Bool, false}
+use mathlib.Core.List.{List}
 use lib.Dec.{leb, ltb, eqb}
 use lib.ListN.{length}
 use Rattle.lists.specs.Lists.{pick, both}
 use Rattle.macroblock.specs.Reply.{done, wrongLength, outsidePicture, unknownByte}
 use Rattle.rfc6386.specs.Picture.{placeOk, sizesOk}
 use Rattle.section15.specs.LoopFilter.{lumaOf, chromaOf}
-use Rattle.loop_filter.specs.Picture.{levelAt, levelsOk}
+use Rattle.loop_filter.specs.Picture.{levelOf, levelsOk}
 
 -- a level above 63 or a sharpness above 7
 abbrev pub outsideLevels : ℕ
@@ -27,29 +27,35 @@ refusalOf cols rows y u v inner levels low sharp kind =
     outsidePicture
 
 abbrev pub Planes : Type 0
-Planes = List ℕ × (List ℕ × List ℕ)
+Planes = List ℕ × List ℕ × List ℕ
 
 -- the three planes filtered
 unfoldable pub filteredPlanes : Bool → ℕ → (ℕ → ℕ) → List ℕ → ℕ → ℕ → Planes → Planes
 filteredPlanes simple sharp level inner cols rows p =
-    (lumaOf simple sharp level inner cols rows (p .0), chromaOf simple sharp level inner cols rows (p .1 .0), chromaOf simple sharp level inner cols rows (p .1 .1))
+    (lumaOf simple sharp level inner cols rows (p .0), chromaOf simple sharp level inner cols rows (p .1), chromaOf simple sharp level inner cols rows (p .2))
 
--- the reply beside the planes
-abbrev pub answered : ℕ → Planes → Planes → ℕ × Planes
-answered number filtered found = (number, pick (eqb number done) filtered found)
+-- the reply and the planes
+abbrev pub Answer : Type 0
+Answer = ℕ × List ℕ × List ℕ × List ℕ
+
+abbrev pub told : ℕ → Planes → Answer
+told number p = (number, p .0, p .1, p .2)
+
+unfoldable pub answered : ℕ → Planes → Planes → Answer
+answered number filtered found = told number (pick (eqb number done) filtered found)
 
 -- with one level for the picture
-unfoldable pub filterAnswer : ℕ → ℕ → ℕ → ℕ → ℕ → List ℕ → List ℕ → List ℕ → List ℕ → ℕ × Planes
+unfoldable pub filterAnswer : ℕ → ℕ → ℕ → ℕ → ℕ → List ℕ → List ℕ → List ℕ → List ℕ → Answer
 filterAnswer cols rows kind level sharp inner y u v =
     answered
     (refusalOf cols rows (length y) (length u) (length v) (length inner) (length inner) (leb level 63) sharp kind)
-    (filteredPlanes (eqb kind 1) sharp (levelAt true level []) inner cols rows (y, u, v))
+    (filteredPlanes (eqb kind 1) sharp (λ k. level) inner cols rows (y, u, v))
     (y, u, v)
 
 -- with a level for each macroblock
-unfoldable pub levelsAnswer : ℕ → ℕ → ℕ → ℕ → List ℕ → List ℕ → List ℕ → List ℕ → List ℕ → ℕ × Planes
+unfoldable pub levelsAnswer : ℕ → ℕ → ℕ → ℕ → List ℕ → List ℕ → List ℕ → List ℕ → List ℕ → Answer
 levelsAnswer cols rows kind sharp levels inner y u v =
     answered
     (refusalOf cols rows (length y) (length u) (length v) (length inner) (length levels) (levelsOk levels) sharp kind)
-    (filteredPlanes (eqb kind 1) sharp (levelAt false 0 levels) inner cols rows (y, u, v))
+    (filteredPlanes (eqb kind 1) sharp (levelOf false 0 levels) inner cols rows (y, u, v))
     (y, u, v)

@@ -8,8 +8,8 @@ use lib.ListN.{length, getD}
 use Rattle.lists.specs.Lists.{turns, pick, both}
 
 -- the level of macroblock k: one for the picture, or a byte for each
-unfoldable pub levelAt : Bool → ℕ → List ℕ → ℕ → ℕ
-levelAt one level levels k = pick one level (getD levels k 0)
+unfoldable pub levelOf : Bool → ℕ → List ℕ → ℕ → ℕ
+levelOf one level levels = λ k. pick one level (getD levels k 0)
 
 -- each level is at most 63
 abbrev pub levelTurn : List ℕ → ℕ → Bool → Bool

@@ -14,25 +14,43 @@
 //          |    |    |    |
 ghost use mathlib.Core.Path.{_≡_};
 ghost use mathlib.Core.Bool.{true, false};
-ghost use mathlib.Core.List.{[]};
 ghost use Prim.Native.Nat.{_*_, _≤_, _<_};
 ghost use lib.Dec.{ltb, leb};
 ghost use lib.ListN.{length};
 ghost use Rattle.lists.specs.Lists.{pick, both};
 ghost use Rattle.section15.specs.LoopFilter.{sides, corner, mbOf, lumaRow, chromaRow, lumaOf, chromaOf};
-ghost use Rattle.edge_lines.specs.Sides.{seated};
-ghost use Rattle.loop_filter.specs.Picture.{levelAt, levelsOk, Ready};
+ghost use Rattle.edge_lines.specs.Sides.{seated, uprightAt, levelAt};
+ghost use Rattle.loop_filter.specs.Picture.{levelOf, levelsOk, Ready};
 ghost use Rattle.loop_filter.specs.Answers.{refusalOf, filterAnswer, levelsAnswer};
 use macroblock::reply;
 use section15::Rule;
 
-// The edges of macroblock c of row r in Y: the upright ones from left to right, then the level ones from top to bottom.
+// The upright edges of macroblock c of row r in Y, or its level ones.
+fn luma_way(
+    y: &mut [u8],
+    cols: usize,
+    r: usize,
+    c: usize,
+    upright: bool,
+    inner: bool,
+    rule: Rule,
+)
+    ensures { λ _. ⌜ now (y .exit) ≡ pick upright (uprightAt rule 16 cols r c inner (now (y .entry))) (levelAt rule 16 cols r c inner (now (y .entry))) ⌝ }
+{
+    if upright {
+        edge_lines::upright_luma(y, cols, r, c, inner, rule);
+        return;
+    }
+    edge_lines::level_luma(y, cols, r, c, inner, rule);
+}
+
+// The upright ones from left to right, then the level ones from top to bottom.
 fn luma_edges(y: &mut [u8], cols: usize, r: usize, c: usize, inner: bool, rule: Rule)
     requires { ⌜ seated 16 (length (now y)) cols r c ≡ true ⌝ }
     ensures { λ _. ⌜ now (y .exit) ≡ sides rule 16 (16 * cols) (corner 16 cols r c) (ltb 0 c) (ltb 0 r) inner (now (y .entry)) ⌝ }
 {
-    edge_lines::upright_luma(y, cols, r, c, inner, rule);
-    edge_lines::level_luma(y, cols, r, c, inner, rule);
+    luma_way(y, cols, r, c, true, inner, rule);
+    luma_way(y, cols, r, c, false, inner, rule);
 }
 
 // The same in U and V.
@@ -86,7 +104,7 @@ fn filter_macroblock(
 // One level for the picture, or the level of macroblock k.
 fn level_at(one: bool, level: u8, levels: &[u8], k: usize) -> u8
     requires { ⌜ (one ≡ false → k < length (now levels)) ⌝ }
-    ensures { λ r. ⌜ r ≡ levelAt one level (now (levels .entry)) k ⌝ }
+    ensures { λ r. ⌜ r ≡ levelOf one level (now (levels .entry)) k ⌝ }
 {
     if one {
         return level;
@@ -108,11 +126,11 @@ fn filter_row(
     levels: &[u8],
     inner: &[u8],
 )
-    requires { ⌜ (Ready cols rows sharp (levelAt one level (now levels)) (now inner) (now y) (now u) (now v))
+    requires { ⌜ (Ready cols rows sharp (levelOf one level (now levels)) (now inner) (now y) (now u) (now v))
         × (one ≡ false → length (now levels) ≡ cols * rows) × (r < rows) ⌝ }
-    ensures { λ _. ⌜ (now (y .exit) ≡ lumaRow simple sharp (levelAt one level (now (levels .entry))) (now (inner .entry)) cols r (now (y .entry)))
-        × (now (u .exit) ≡ chromaRow simple sharp (levelAt one level (now (levels .entry))) (now (inner .entry)) cols r (now (u .entry)))
-        × (now (v .exit) ≡ chromaRow simple sharp (levelAt one level (now (levels .entry))) (now (inner .entry)) cols r (now (v .entry))) ⌝ }
+    ensures { λ _. ⌜ (now (y .exit) ≡ lumaRow simple sharp (levelOf one level (now (levels .entry))) (now (inner .entry)) cols r (now (y .entry)))
+        × (now (u .exit) ≡ chromaRow simple sharp (levelOf one level (now (levels .entry))) (now (inner .entry)) cols r (now (u .entry)))
+        × (now (v .exit) ≡ chromaRow simple sharp (levelOf one level (now (levels .entry))) (now (inner .entry)) cols r (now (v .entry))) ⌝ }
 {
     for c in 0..cols {
         let k = r * cols + c;
@@ -135,11 +153,11 @@ fn filter_rows(
     levels: &[u8],
     inner: &[u8],
 )
-    requires { ⌜ (Ready cols rows sharp (levelAt one level (now levels)) (now inner) (now y) (now u) (now v))
+    requires { ⌜ (Ready cols rows sharp (levelOf one level (now levels)) (now inner) (now y) (now u) (now v))
         × (one ≡ false → length (now levels) ≡ cols * rows) ⌝ }
-    ensures { λ _. ⌜ (now (y .exit) ≡ lumaOf simple sharp (levelAt one level (now (levels .entry))) (now (inner .entry)) cols rows (now (y .entry)))
-        × (now (u .exit) ≡ chromaOf simple sharp (levelAt one level (now (levels .entry))) (now (inner .entry)) cols rows (now (u .entry)))
-        × (now (v .exit) ≡ chromaOf simple sharp (levelAt one level (now (levels .entry))) (now (inner .entry)) cols rows (now (v .entry))) ⌝ }
+    ensures { λ _. ⌜ (now (y .exit) ≡ lumaOf simple sharp (levelOf one level (now (levels .entry))) (now (inner .entry)) cols rows (now (y .entry)))
+        × (now (u .exit) ≡ chromaOf simple sharp (levelOf one level (now (levels .entry))) (now (inner .entry)) cols rows (now (u .entry)))
+        × (now (v .exit) ≡ chromaOf simple sharp (levelOf one level (now (levels .entry))) (now (inner .entry)) cols rows (now (v .entry))) ⌝ }
 {
     for r in 0..rows {
         filter_row(
@@ -251,7 +269,7 @@ pub fn filter(
         sharpness,
         true,
         level,
-        &[],
+        inner,
         inner,
     );
     reply::DONE

@@ -1,32 +1,26 @@
+use Prim.Native.Nat.{ℕ, _+_, _-_, _*_, _<_, _≤_}
+use mathlib.Core.Path.{_≡_, refl, sym, ap, _∙_}
+use mathlib.Core.Bool.{Bool, true, false}
+use mathlib.Core.List.{List}
+use native.Mathlib.Omega.{arith}
+use lib.ListN.{length, getD}
 use borrow.Author.Needs.{needs}
+use Rattle.section15.specs.LoopFilter.{sides, corner}
+use Rattle.loop_filter.proofs.Both.{chroma-is}
 use Rattle.loop_filter.proofs.chroma_edges.Statement.{statement}
 use Rattle.loop_filter.proofs.chroma_edges.Tie as tie
-use Rattle.loop_filter.proofs.chroma_edges.Reads as reads
-use Rattle.loop_filter.proofs.chroma_edges.Lts as lts
-use Rattle.edge_lines.proofs.level_chroma.Reads as level-chroma-reads
-use Rattle.edge_lines.proofs.upright_chroma.Reads as upright-chroma-reads
 
--- src/lib.rt:52:5
-upright-chroma-requires : tie.Need-upright-chroma-requires
-upright-chroma-requires c κs = search needs
-
--- src/lib.rt:53:5
-level-chroma-requires : tie.Need-level-chroma-requires
-level-chroma-requires c κs = search needs
-
--- src/lib.rt:39:1
-same-length : tie.Need-same-length
-same-length c = search needs
-
--- src/lib.rt:39:1
-same-length-2 : tie.Need-same-length-2
-same-length-2 c = search needs
-
--- src/lib.rt:39:1
 returns : tie.Need-returns
-returns c = ?
+returns c =
+    let x = c .before .before .before .before in
+    let d = x .before .before .before .before .before .before .before in
+    let z = d .before .before .before .before .before in
+    let a = z .args in
+    let e =
+    x .level-chroma .ensures
+    ∙ chroma-is (a .rule) (a .cols) (a .r) (a .c) (a .inner) (a .u .now) (a .v .now) (d .upright-chroma .last .0) (d .upright-chroma .last .1 .0) (z .pre .0) (z .pre .1)
+    (d .upright-chroma .kept .0) (d .upright-chroma .kept .1 .0) (d .upright-chroma .ensures) in
+    (ap (λ (w : List ℕ × List ℕ). w .0) e, ap (λ (w : List ℕ × List ℕ). w .1) e)
 
 pub chroma-edges-spec : {M : Type 1} → statement M
-chroma-edges-spec =
-    tie.close
-    (tie.spec upright-chroma-requires level-chroma-requires same-length same-length-2 returns)
+chroma-edges-spec = tie.close (tie.spec (λ c κs. search needs) (λ c κs. search needs) (λ c. search needs) (λ c. search needs) returns)

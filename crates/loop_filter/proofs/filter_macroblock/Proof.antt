@@ -1,63 +1,44 @@
+use Prim.Native.Nat.{ℕ, _+_, _-_, _*_, _<_, _≤_}
+use mathlib.Core.Path.{_≡_, refl, sym, ap, _∙_}
+use mathlib.Core.Bool.{Bool, true, false}
+use mathlib.Core.List.{List}
+use native.Mathlib.Omega.{arith}
+use lib.ListN.{length, getD}
 use borrow.Author.Needs.{needs}
+use Rattle.loop_filter.proofs.Both.{mb-is, mb-none, pick-yes, pick-no, pick-same}
 use Rattle.loop_filter.proofs.filter_macroblock.Statement.{statement}
 use Rattle.loop_filter.proofs.filter_macroblock.Tie as tie
-use Rattle.loop_filter.proofs.filter_macroblock.Reads as reads
-use Rattle.loop_filter.proofs.filter_macroblock.Lts as lts
-use Rattle.filter_limits.proofs.rule_of.Reads as rule-of-reads
-use Rattle.loop_filter.proofs.chroma_edges.Reads as chroma-edges-reads
-use Rattle.loop_filter.proofs.luma_edges.Reads as luma-edges-reads
 
--- src/lib.rt:76:9
 returns : tie.Need-returns
-returns c = ?
+returns c =
+    let e = c .if1 .taken in
+    let a = c .before .before .before .before .args in (
+      mb-none (a .simple) (a .level) (a .sharp) (a .inner) 16 (a .cols) (a .r) (a .c) (a .y .now) e,
+      pick-same (a .simple) _ _ (mb-none (a .simple) (a .level) (a .sharp) (a .inner) 8 (a .cols) (a .r) (a .c) (a .u .now) e),
+      pick-same (a .simple) _ _ (mb-none (a .simple) (a .level) (a .sharp) (a .inner) 8 (a .cols) (a .r) (a .c) (a .v .now) e),
+    )
 
--- src/lib.rt:78:9
-rule-of-requires : tie.Need-rule-of-requires
-rule-of-requires c κs = search needs
-
--- src/lib.rt:79:5
-luma-edges-requires : tie.Need-luma-edges-requires
-luma-edges-requires c κs = search needs
-
--- src/lib.rt:81:9
-same-length : tie.Need-same-length
-same-length c = search needs
-
--- src/lib.rt:81:9
 returns-2 : tie.Need-returns-2
-returns-2 c = ?
+returns-2 c =
+    let l = c .before .before .before in
+    let k = l .before .before in
+    let i = k .before in
+    let p = i .before .before .before .before .pre in
+    (mb-is _ _ _ _ _ _ _ _ _ _ _ (i .if1 .left) (p .0) (p .1) (k .rule-of .ensures) (l .luma-edges .ensures), pick-yes _ _ _ (c .if2 .taken), pick-yes _ _ _ (c .if2 .taken))
 
--- src/lib.rt:83:5
-chroma-edges-requires : tie.Need-chroma-edges-requires
-chroma-edges-requires c κs = search needs
-
--- src/lib.rt:57:1
-same-length-2 : tie.Need-same-length-2
-same-length-2 c = search needs
-
--- src/lib.rt:57:1
-same-length-3 : tie.Need-same-length-3
-same-length-3 c = search needs
-
--- src/lib.rt:57:1
-same-length-4 : tie.Need-same-length-4
-same-length-4 c = search needs
-
--- src/lib.rt:57:1
 returns-3 : tie.Need-returns-3
-returns-3 c = ?
+returns-3 c =
+    let h = c .before .before .before .before in
+    let j = h .before .before .before in
+    let l = j .before .before .before in
+    let k = l .before .before in
+    let i = k .before in
+    let p = i .before .before .before .before .pre in (
+      mb-is _ _ _ _ _ _ _ _ _ _ _ (i .if1 .left) (p .0) (p .1) (k .rule-of .ensures) (l .luma-edges .ensures),
+      pick-no _ _ _ _ (j .if2 .left) (mb-is _ _ _ _ _ _ _ _ _ _ _ (i .if1 .left) (p .0) (p .1) (k .rule-of .ensures) (h .chroma-edges .ensures .0)),
+      pick-no _ _ _ _ (j .if2 .left) (mb-is _ _ _ _ _ _ _ _ _ _ _ (i .if1 .left) (p .0) (p .1) (k .rule-of .ensures) (h .chroma-edges .ensures .1)),
+    )
 
 pub filter-macroblock-spec : {M : Type 1} → statement M
 filter-macroblock-spec =
-    tie.close
-    (tie.spec
-    returns
-    rule-of-requires
-    luma-edges-requires
-    same-length
-    returns-2
-    chroma-edges-requires
-    same-length-2
-    same-length-3
-    same-length-4
-    returns-3)
+    tie.close (tie.spec returns (λ c κs. search needs) (λ c κs. search needs) (λ c. search needs) returns-2 (λ c κs. search needs) (λ c. search needs) (λ c. search needs) (λ c. search needs) returns-3)

@@ -1,67 +1,106 @@
+use Prim.Native.Nat.{ℕ, _+_, _-_, _*_, _<_, _≤_}
+use mathlib.Core.Path.{_≡_, refl, sym, ap, _∙_}
+use mathlib.Core.Bool.{Bool, true, false}
+use mathlib.Core.List.{List}
+use native.Mathlib.Omega.{arith}
+use lib.ListN.{length, getD}
+use borrow.Author.Needs.{needs}
+use Rattle.lists.specs.Lists.{turns}
+use Rattle.lists.proofs.Turns.{turns-step, turns-done}
+use Rattle.section15.specs.LoopFilter.{lumaAt, chromaAt, lumaRow, chromaRow}
+use Rattle.loop_filter.specs.Picture.{levelOf}
+use Rattle.loop_filter.proofs.Seats.{byte-in, luma-seated, u-seated, v-seated}
 use Rattle.loop_filter.proofs.filter_row.Statement.{statement}
 use Rattle.loop_filter.proofs.filter_row.Tie as tie
-use Rattle.loop_filter.proofs.filter_row.Reads as reads
-use Rattle.loop_filter.proofs.filter_row.Lts as lts
-use Rattle.loop_filter.proofs.filter_macroblock.Reads as filter-macroblock-reads
-use Rattle.loop_filter.proofs.level_at.Reads as level-at-reads
 
 abbrev Inv-loop : tie.InvT-loop
-Inv-loop y₀ u₀ v₀ cols rows r simple sharp one level levels inner c₀ y u v c = ?
+Inv-loop y₀ u₀ v₀ cols rows r simple sharp one level levels inner c₀ y u v c =
+    (c ≤ cols) × (length y ≡ length y₀) × (length u ≡ length u₀) × (length v ≡ length v₀)
+    × (y ≡ turns c (lumaAt simple sharp (levelOf one level levels) inner cols r) y₀) × (u ≡ turns c (chromaAt simple sharp (levelOf one level levels) inner cols r) u₀) × (v ≡ turns c (chromaAt simple sharp (levelOf one level levels) inner cols r) v₀)
 
 abbrev μ-loop : tie.MeasureT-loop
-μ-loop y₀ u₀ v₀ cols rows r simple sharp one level levels inner c₀ y u v c = ?
+μ-loop y₀ u₀ v₀ cols rows r simple sharp one level levels inner c₀ y u v c = cols - c
 
--- src/lib.rt:117:5
 loop-holds : tie.Need-loop-holds Inv-loop μ-loop
-loop-holds c = ?
+unfolding turns
+loop-holds c = (omega arith, refl, refl, refl, refl, refl, refl)
 
--- src/lib.rt:118:17
 mul-k : tie.Need-mul-k Inv-loop μ-loop
-mul-k c = ?
+mul-k c =
+    let t = c in
+    let l = t .before in
+    let z = l .before .before .before .before .before .before in
+    let h = z .pre .0 in
+    let b = byte-in _ _ _ _ (z .pre .2) (t .loop-test .taken) in
+    let e = h .bytes in
+    omega arith
 
--- src/lib.rt:118:17
 add-k : tie.Need-add-k Inv-loop μ-loop
-add-k c = ?
+add-k c =
+    let t = c in
+    let l = t .before in
+    let z = l .before .before .before .before .before .before in
+    let h = z .pre .0 in
+    let b = byte-in _ _ _ _ (z .pre .2) (t .loop-test .taken) in
+    let e = h .bytes in
+    omega arith
 
--- src/lib.rt:119:13
 level-at-requires : tie.Need-level-at-requires Inv-loop μ-loop
-level-at-requires c κs = ?
+level-at-requires c κs =
+    let t = c in
+    let l = t .before in
+    let z = l .before .before .before .before .before .before in
+    let h = z .pre .0 in
+    let b = byte-in _ _ _ _ (z .pre .2) (t .loop-test .taken) in
+    λ o. let e = z .pre .1 o in omega arith
 
--- src/lib.rt:120:17
-shared-slice-read-i : tie.Need-shared-slice-read-i Inv-loop μ-loop
-shared-slice-read-i c = ?
+read : tie.Need-shared-slice-read-i Inv-loop μ-loop
+read c =
+    let t = c .before .before in
+    let l = t .before in
+    let z = l .before .before .before .before .before .before in
+    let h = z .pre .0 in
+    let b = byte-in _ _ _ _ (z .pre .2) (t .loop-test .taken) in
+    let e = h .bytes in
+    omega arith
 
--- src/lib.rt:121:9
 filter-macroblock-requires : tie.Need-filter-macroblock-requires Inv-loop μ-loop
-filter-macroblock-requires c κs = ?
+filter-macroblock-requires c κs =
+    let t = c .before .before .before .before .before in
+    let l = t .before in
+    let z = l .before .before .before .before .before .before in
+    let h = z .pre .0 in
+    let b = byte-in _ _ _ _ (z .pre .2) (t .loop-test .taken) in
+    let i = l .loop .inv in
+    let f = c .before .before .before .before .level-at .ensures in
+    let w = h .low _ b in
+    (omega arith, h .sharpness, luma-seated _ _ _ _ _ _ _ _ h _ _ (z .pre .2) (t .loop-test .taken) _ (i .1), u-seated _ _ _ _ _ _ _ _ h _ _ (z .pre .2) (t .loop-test .taken) _ (i .2),
+    v-seated _ _ _ _ _ _ _ _ h _ _ (z .pre .2) (t .loop-test .taken) _ (i .3))
 
--- src/lib.rt:117:9
-add-c : tie.Need-add-c Inv-loop μ-loop
-add-c c = ?
-
--- src/lib.rt:117:5
-loop-less : tie.Need-loop-less Inv-loop μ-loop
-loop-less c = ?
-
--- src/lib.rt:117:5
 loop-again : tie.Need-loop-again Inv-loop μ-loop
-loop-again c = ?
+loop-again c =
+    let d = c .before .before .before .before .before .before in
+    let n = d .before .before .before .before .before in
+    let i = n .before .before .loop .inv in
+    let e = d .filter-macroblock .ensures in
+    let f = n .level-at .ensures in (
+      omega arith,
+      d .filter-macroblock .kept .0 ∙ i .1,
+      d .filter-macroblock .kept .1 .0 ∙ i .2,
+      d .filter-macroblock .kept .1 .1 .0 ∙ i .3,
+      turns-step _ _ _ _ _ (i .4) (e .0 ∙ rw f refl),
+      turns-step _ _ _ _ _ (i .5) (e .1 ∙ rw f refl),
+      turns-step _ _ _ _ _ (i .6) (e .2 ∙ rw f refl),
+    )
 
--- src/lib.rt:97:1
-same-length : tie.Need-same-length Inv-loop μ-loop
-same-length c = ?
-
--- src/lib.rt:97:1
-same-length-2 : tie.Need-same-length-2 Inv-loop μ-loop
-same-length-2 c = ?
-
--- src/lib.rt:97:1
-same-length-3 : tie.Need-same-length-3 Inv-loop μ-loop
-same-length-3 c = ?
-
--- src/lib.rt:97:1
 returns : tie.Need-returns Inv-loop μ-loop
-returns c = ?
+unfolding lumaRow chromaRow
+returns c =
+    let i = c .before .loop .inv in (
+      turns-done _ _ _ _ _ (i .4) (i .0) (c .loop-test .left),
+      turns-done _ _ _ _ _ (i .5) (i .0) (c .loop-test .left),
+      turns-done _ _ _ _ _ (i .6) (i .0) (c .loop-test .left),
+    )
 
 pub filter-row-spec : {M : Type 1} → statement M
 filter-row-spec =
@@ -73,12 +112,12 @@ filter-row-spec =
     mul-k
     add-k
     level-at-requires
-    shared-slice-read-i
+    read
     filter-macroblock-requires
-    add-c
-    loop-less
+    (λ c. omega arith)
+    (λ c. omega arith)
     loop-again
-    same-length
-    same-length-2
-    same-length-3
+    (λ c. omega arith)
+    (λ c. omega arith)
+    (λ c. omega arith)
     returns)

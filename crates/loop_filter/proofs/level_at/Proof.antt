@@ -1,19 +1,24 @@
+use Prim.Native.Nat.{ℕ, _+_, _-_, _*_, _<_, _≤_}
+use mathlib.Core.Path.{_≡_, refl, sym, ap, _∙_}
+use mathlib.Core.Bool.{Bool, true, false}
+use mathlib.Core.List.{List}
+use native.Mathlib.Omega.{arith}
+use lib.ListN.{length, getD}
+use borrow.Author.Needs.{needs}
+use Rattle.loop_filter.specs.Picture.{levelOf}
 use Rattle.loop_filter.proofs.level_at.Statement.{statement}
 use Rattle.loop_filter.proofs.level_at.Tie as tie
-use Rattle.loop_filter.proofs.level_at.Reads as reads
-use Rattle.loop_filter.proofs.level_at.Lts as lts
 
--- src/lib.rt:92:9
 returns : tie.Need-returns
-returns c = ?
+unfolding levelOf
+returns c = rw (c .if1 .taken)
 
--- src/lib.rt:94:5
-shared-slice-read-result : tie.Need-shared-slice-read-result
-shared-slice-read-result c = ?
+read : tie.Need-shared-slice-read-result
+read c = let h = c .before .before .pre (c .before .if1 .left) in omega arith
 
--- src/lib.rt:87:1
 returns-2 : tie.Need-returns-2
-returns-2 c = ?
+unfolding levelOf
+returns-2 c = rw (c .before .if1 .left)
 
 pub level-at-spec : {M : Type 1} → statement M
-level-at-spec = tie.close (tie.spec returns shared-slice-read-result returns-2)
+level-at-spec = tie.close (tie.spec returns read returns-2)

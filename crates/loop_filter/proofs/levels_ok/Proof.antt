@@ -1,53 +1,34 @@
+use Prim.Native.Nat.{ℕ, _+_, _-_, _*_, _<_, _≤_}
+use mathlib.Core.Path.{_≡_, refl, sym, ap, _∙_}
+use mathlib.Core.Bool.{Bool, true, false}
+use mathlib.Core.List.{List}
+use native.Mathlib.Omega.{arith}
+use lib.ListN.{length, getD}
+use borrow.Author.Needs.{needs}
+use Rattle.lists.specs.Lists.{turns}
+use Rattle.lists.proofs.Turns.{turns-step, turns-done}
+use Rattle.loop_filter.specs.Picture.{levelTurn, levelsOk}
 use Rattle.loop_filter.proofs.levels_ok.Statement.{statement}
 use Rattle.loop_filter.proofs.levels_ok.Tie as tie
-use Rattle.loop_filter.proofs.levels_ok.Reads as reads
-use Rattle.loop_filter.proofs.levels_ok.Lts as lts
-use Rattle.loop_filter.proofs.within.Reads as within-reads
 
 abbrev Inv-loop : tie.InvT-loop
-Inv-loop levels ok₀ n k₀ ok k = ?
+Inv-loop levels ok₀ n k₀ ok k = (k ≤ length levels) × (ok ≡ turns k (levelTurn levels) true)
 
 abbrev μ-loop : tie.MeasureT-loop
-μ-loop levels ok₀ n k₀ ok k = ?
+μ-loop levels ok₀ n k₀ ok k = length levels - k
 
--- src/lib.rt:166:5
 loop-holds : tie.Need-loop-holds Inv-loop μ-loop
-loop-holds c = ?
+unfolding turns
+loop-holds c = (omega arith, refl)
 
--- src/lib.rt:167:25
-shared-slice-read-within : tie.Need-shared-slice-read-within Inv-loop μ-loop
-shared-slice-read-within c = ?
-
--- src/lib.rt:167:9
-within-requires : tie.Need-within-requires Inv-loop μ-loop
-within-requires c κs = ?
-
--- src/lib.rt:166:9
-add-k : tie.Need-add-k Inv-loop μ-loop
-add-k c = ?
-
--- src/lib.rt:166:5
-loop-less : tie.Need-loop-less Inv-loop μ-loop
-loop-less c = ?
-
--- src/lib.rt:166:5
 loop-again : tie.Need-loop-again Inv-loop μ-loop
-loop-again c = ?
+loop-again c = let l = c .before .before .before .loop in (omega arith, turns-step _ _ _ _ _ (l .inv .1) (c .within .ensures))
 
--- src/lib.rt:161:1
 returns : tie.Need-returns Inv-loop μ-loop
-returns c = ?
+unfolding levelsOk
+returns c = let l = c .before .loop in turns-done _ _ _ _ _ (l .inv .1) (l .inv .0) (c .loop-test .left)
 
 pub levels-ok-spec : {M : Type 1} → statement M
 levels-ok-spec =
     tie.close
-    (tie.spec
-    Inv-loop
-    μ-loop
-    loop-holds
-    shared-slice-read-within
-    within-requires
-    add-k
-    loop-less
-    loop-again
-    returns)
+    (tie.spec Inv-loop μ-loop loop-holds (λ c. omega arith) (λ c κs. search needs) (λ c. omega arith) (λ c. omega arith) loop-again returns)

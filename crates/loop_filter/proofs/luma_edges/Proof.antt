@@ -1,27 +1,22 @@
+use Prim.Native.Nat.{ℕ, _+_, _-_, _*_, _<_, _≤_}
+use mathlib.Core.Path.{_≡_, refl, sym, ap, _∙_}
+use mathlib.Core.Bool.{Bool, true, false}
+use mathlib.Core.List.{List}
+use native.Mathlib.Omega.{arith}
+use lib.ListN.{length, getD}
 use borrow.Author.Needs.{needs}
+use Rattle.loop_filter.proofs.Both.{luma-is}
 use Rattle.loop_filter.proofs.luma_edges.Statement.{statement}
 use Rattle.loop_filter.proofs.luma_edges.Tie as tie
-use Rattle.loop_filter.proofs.luma_edges.Reads as reads
-use Rattle.loop_filter.proofs.luma_edges.Lts as lts
-use Rattle.edge_lines.proofs.level_luma.Reads as level-luma-reads
-use Rattle.edge_lines.proofs.upright_luma.Reads as upright-luma-reads
 
--- src/lib.rt:34:5
-upright-luma-requires : tie.Need-upright-luma-requires
-upright-luma-requires c κs = search needs
-
--- src/lib.rt:35:5
-level-luma-requires : tie.Need-level-luma-requires
-level-luma-requires c κs = search needs
-
--- src/lib.rt:30:1
-same-length : tie.Need-same-length
-same-length c = search needs
-
--- src/lib.rt:30:1
 returns : tie.Need-returns
-returns c = ?
+returns c =
+    let x = c .before .before in
+    let d = x .before .before .before .before in
+    let z = d .before .before .before in
+    let a = z .args in
+    x .luma-way2 .ensures
+    ∙ luma-is (a .rule) 16 (a .cols) (a .r) (a .c) (a .inner) (a .y .now) (d .luma-way .last .0) (z .pre) (d .luma-way .kept .0) (d .luma-way .ensures)
 
 pub luma-edges-spec : {M : Type 1} → statement M
-luma-edges-spec =
-    tie.close (tie.spec upright-luma-requires level-luma-requires same-length returns)
+luma-edges-spec = tie.close (tie.spec (λ c κs. search needs) (λ c κs. search needs) (λ c. search needs) returns)

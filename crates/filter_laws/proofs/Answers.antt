@@ -1,7 +1,7 @@
 -- What the calls leave of a plane: as found where they refuse, and everywhere beyond the reach of the edges that are filtered. Assumes nothing.
 --     luma-kept, u-kept, v-kept     with a level for each macroblock; with one level it is the same call, by `one-level-is`
 --     refused-kept                  a refusal leaves the planes as found
---     simple-kept                   the simple filter leaves U and V as found
+--     simple-u, simple-v            the simple filter leaves U and V as found
 use Prim.Native.Nat.{ℕ}
 use mathlib.Core.Path.{_≡_, refl, sym, ap, _∙_}
 use mathlib.Core.Bool.{Bool, true, false}
@@ -12,7 +12,7 @@ use Rattle.lists.specs.Lists.{pick}
 use Rattle.macroblock.specs.Reply.{done}
 use Rattle.section15.specs.LoopFilter.{lumaOf, chromaOf}
 use Rattle.loop_filter.specs.Picture.{levelOf, levelsOk}
-use Rattle.loop_filter.specs.Answers.{refusalOf, Planes, filteredPlanes, levelsAnswer}
+use Rattle.loop_filter.specs.Answers.{Planes, told, answered, filteredPlanes, levelsAnswer}
 use Rattle.filter_laws.proofs.Planes.{AwayFromAll, luma-keeps, chroma-keeps, simple-chroma}
 
 picked : (f : Planes → List ℕ) (j : ℕ) (t : Bool) (a b : Planes) → getD (f a) j 0 ≡ getD (f b) j 0 → getD (f (pick t a b)) j 0 ≡ getD (f b) j 0
@@ -26,29 +26,29 @@ whole f false a b e = refl
 module _ (cols rows kind sharp : ℕ) (levels inner y u v : List ℕ) where
   pub luma-kept : (j : ℕ) → AwayFromAll (eqb kind 1) sharp (levelOf false 0 levels) inner cols rows 16 j
       → getD (levelsAnswer cols rows kind sharp levels inner y u v .1) j 0 ≡ getD y j 0
-  unfolding levelsAnswer filteredPlanes
+  unfolding levelsAnswer answered filteredPlanes
   luma-kept j h = picked (λ p. p .0) j _ _ (y, u, v) (luma-keeps (eqb kind 1) sharp (levelOf false 0 levels) inner cols rows j h y)
 
   pub u-kept : (j : ℕ) → AwayFromAll (eqb kind 1) sharp (levelOf false 0 levels) inner cols rows 8 j
       → getD (levelsAnswer cols rows kind sharp levels inner y u v .2) j 0 ≡ getD u j 0
-  unfolding levelsAnswer filteredPlanes
+  unfolding levelsAnswer answered filteredPlanes
   u-kept j h = picked (λ p. p .1) j _ _ (y, u, v) (chroma-keeps (eqb kind 1) sharp (levelOf false 0 levels) inner cols rows j h u)
 
   pub v-kept : (j : ℕ) → AwayFromAll (eqb kind 1) sharp (levelOf false 0 levels) inner cols rows 8 j
       → getD (levelsAnswer cols rows kind sharp levels inner y u v .3) j 0 ≡ getD v j 0
-  unfolding levelsAnswer filteredPlanes
+  unfolding levelsAnswer answered filteredPlanes
   v-kept j h = picked (λ p. p .2) j _ _ (y, u, v) (chroma-keeps (eqb kind 1) sharp (levelOf false 0 levels) inner cols rows j h v)
 
-  pub refused-kept : eqb (levelsAnswer cols rows kind sharp levels inner y u v .0) done ≡ false → levelsAnswer cols rows kind sharp levels inner y u v .1 ≡ (y, u, v)
-  unfolding levelsAnswer
-  refused-kept e = rw e
+  pub refused-kept : (n : ℕ) → n ≡ levelsAnswer cols rows kind sharp levels inner y u v .0 → eqb n done ≡ false
+      → levelsAnswer cols rows kind sharp levels inner y u v ≡ told n (y, u, v)
+  unfolding levelsAnswer answered
+  refused-kept n e f = rw (← e, f)
 
 module _ (cols rows sharp : ℕ) (levels inner y u v : List ℕ) where
-  pub simple-kept : (levelsAnswer cols rows 1 sharp levels inner y u v .1 .1) ≡ (u, v)
-  unfolding levelsAnswer filteredPlanes
-  simple-kept =
-      by _ (rw (simple-chroma sharp (levelOf false 0 levels) inner cols rows u, simple-chroma sharp (levelOf false 0 levels) inner cols rows v))
-    where
-      by : (t : Bool) {a : Planes} → a .1 ≡ (u, v) → pick t a (y, u, v) .1 ≡ (u, v)
-      by true e = e
-      by false e = refl
+  pub simple-u : levelsAnswer cols rows 1 sharp levels inner y u v .2 ≡ u
+  unfolding levelsAnswer answered filteredPlanes
+  simple-u = whole (λ p. p .1) _ _ (y, u, v) (simple-chroma sharp (levelOf false 0 levels) inner cols rows u)
+
+  pub simple-v : levelsAnswer cols rows 1 sharp levels inner y u v .3 ≡ v
+  unfolding levelsAnswer answered filteredPlanes
+  simple-v = whole (λ p. p .2) _ _ (y, u, v) (simple-chroma sharp (levelOf false 0 levels) inner cols rows v)

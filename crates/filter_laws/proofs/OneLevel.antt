@@ -31,7 +31,7 @@ module _ (n level : ℕ) where
   length-all = length-replicate n level
 
   all-at : (k : ℕ) → k < n → getD all k 0 ≡ level
-  all-at k p = getD-replicate n level k 0 p
+  all-at k p = getD-replicate n k level 0 p
 
   some-ok : (m : ℕ) → suc m ≤ n → turns (suc m) (levelTurn all) true ≡ leb level 63
   unfolding turns
@@ -40,7 +40,7 @@ module _ (n level : ℕ) where
 
   all-ok : (m : ℕ) → n ≡ suc m → levelsOk all ≡ leb level 63
   unfolding levelsOk
-  all-ok m e = rw (length-all, e) (some-ok m (rw e (le-refl (suc m))))
+  all-ok m e = ap (λ (k : ℕ). turns k (levelTurn all) true) (length-all ∙ e) ∙ some-ok m (omega arith)
 
 halves : (b : Bool) → both b b ≡ both b true
 halves true = refl
@@ -58,17 +58,17 @@ module _ (cols rows kind level sharp : ℕ) (inner y u v : List ℕ) where
       let m : cols * rows ≡ suc (cols * rows - 1) = omega arith in
       rw (all-ok (cols * rows) level (cols * rows - 1) m, eq-eqb (length (all (cols * rows) level)) (cols * rows) (length-all (cols * rows) level), halves (eqb (length inner) (cols * rows)))
 
-  same-level : (k : ℕ) → k < cols * rows → (λ k. level) k ≡ levelOf false 0 (all (cols * rows) level) k
+  same-level : (k : ℕ) → k < cols * rows → level ≡ levelOf false 0 (all (cols * rows) level) k
   unfolding levelOf
   same-level k p = sym (all-at (cols * rows) level k p)
 
-  same-planes : (s : Bool) → filteredPlanes s sharp (λ k. level) inner cols rows (y, u, v) ≡ filteredPlanes s sharp (levelOf false 0 (all (cols * rows) level)) inner cols rows (y, u, v)
+  same-planes : (s : Bool) → filteredPlanes s sharp (λ (k : ℕ). level) inner cols rows (y, u, v) ≡ filteredPlanes s sharp (levelOf false 0 (all (cols * rows) level)) inner cols rows (y, u, v)
   unfolding filteredPlanes
   same-planes s =
       rw (
-        luma-ext s sharp (λ k. level) (levelOf false 0 (all (cols * rows) level)) inner cols rows same-level y,
-        chroma-ext s sharp (λ k. level) (levelOf false 0 (all (cols * rows) level)) inner cols rows same-level u,
-        chroma-ext s sharp (λ k. level) (levelOf false 0 (all (cols * rows) level)) inner cols rows same-level v,
+        luma-ext s sharp (λ (k : ℕ). level) (levelOf false 0 (all (cols * rows) level)) inner cols rows same-level y,
+        chroma-ext s sharp (λ (k : ℕ). level) (levelOf false 0 (all (cols * rows) level)) inner cols rows same-level u,
+        chroma-ext s sharp (λ (k : ℕ). level) (levelOf false 0 (all (cols * rows) level)) inner cols rows same-level v,
       )
 
   pub one-level-is : filterAnswer cols rows kind level sharp inner y u v ≡ levelsAnswer cols rows kind sharp (all (cols * rows) level) inner y u v

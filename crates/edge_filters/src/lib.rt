@@ -5,11 +5,11 @@ ghost use mathlib.Core.Bool.{Bool, true, false};
 ghost use Prim.Native.Nat.{_+_, _*_, _/_, _-_, _≤_, _<_, min, max};
 ghost use lib.Dec.{leb, ltb};
 ghost use Rattle.lists.specs.Lists.{pick};
-ghost use Rattle.section15.specs.LoopFilter.{apart, near, smooth, steep, filtered};
+ghost use Rattle.rfc6386.specs.LoopFilter.{apart, near, smooth, steep, filtered};
 ghost use Rattle.edge_filters.specs.Pixels.{held, pull, nudged, easedIf, spread, spreadIf};
-use section15::Across;
-use section15::Kind;
-use section15::Limits;
+use macroblock::filter::Across;
+use macroblock::filter::Kind;
+use macroblock::filter::Limits;
 
 fn larger(x: u8, y: u8) -> u8
     ensures { λ r. ⌜ r ≡ max x y ⌝ }

@@ -4,7 +4,7 @@
 --     built-more                      a window with eight lines more
 --     laid-more                       a plane with eight lines of the window more put back
 --     laid-is                         once all are put back, it is the plane that the window agrees with
-use Prim.Native.Nat.{ℕ, zero, suc, _+_, _-_, _*_, _<_, _≤_}
+use Prim.Native.Nat.{ℕ, _+_, _-_, _*_, _<_, _≤_}
 use mathlib.Core.Path.{_≡_, refl, sym, ap, subst, _∙_}
 use mathlib.Core.Logic.{_≢_, ⊎-elim}
 use mathlib.Core.List.{List}
@@ -13,10 +13,10 @@ use native.Mathlib.Omega.{arith}
 use lib.ListN.{length, getD, length-replicate}
 use Rattle.edge_lines.specs.Lines.{Fits, rowsPut, zeros, Flat}
 use Rattle.edge_lines.proofs.Rows.{rows-apart, length-put, put-there, put-beside}
-use Rattle.section15.specs.declared.Limits.{Limits}
-use Rattle.section15.specs.declared.Kind.{Kind}
-use Rattle.section15.specs.LoopFilter.{edge}
-use Rattle.section15.proofs.Reach.{length-edge}
+use Rattle.macroblock.specs.declared.filter.Limits.{Limits}
+use Rattle.macroblock.specs.declared.filter.Kind.{Kind}
+use Rattle.rfc6386.specs.LoopFilter.{edge}
+use Rattle.rfc6386.proofs.FilterReach.{length-edge}
 use Rattle.edge_lines.proofs.Window.{Agree, Distinct, Off, window-back, agree-all, off-all, lt-or-ge}
 
 length-zeros : (n : ℕ) → length (zeros n) ≡ n

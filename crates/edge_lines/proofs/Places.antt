@@ -2,10 +2,10 @@
 --     seat            what a seated macroblock has: its square, and room beyond its own edges
 --     left-fits ..    the windows of its edges
 --     three           three inner edges, one after the other
-use Prim.Native.Nat.{ℕ, _+_, _-_, _*_, _/_, _<_, _≤_}
-use native.Mathlib.Nat.{mul-le-mul, mul-le-mul-left, mul-le-mul-right}
+use Prim.Native.Nat.{ℕ, _+_, _-_, _*_, _<_, _≤_}
+use native.Mathlib.Nat.{mul-le-mul-right}
 use native.Mathlib.Omega.{arith}
-use mathlib.Core.Path.{_≡_, refl, sym, ap, _∙_}
+use mathlib.Core.Path.{_≡_}
 use mathlib.Core.Bool.{Bool, true}
 use mathlib.Core.List.{List}
 use lib.Dec.{leb, ltb}
@@ -13,9 +13,9 @@ use lib.ListN.{length}
 use borrow.Author.Tests.{ltb-true, leb-true}
 use Rattle.lists.specs.Lists.{turns, both}
 use Rattle.lists.proofs.Tests.{left-holds, right-holds}
-use Rattle.section15.specs.declared.Limits.{Limits}
-use Rattle.section15.specs.declared.Kind.{Kind}
-use Rattle.section15.specs.LoopFilter.{corner, edge, innerTurn}
+use Rattle.macroblock.specs.declared.filter.Limits.{Limits}
+use Rattle.macroblock.specs.declared.filter.Kind.{Kind}
+use Rattle.rfc6386.specs.LoopFilter.{corner, edge, innerTurn}
 use Rattle.edge_lines.specs.Lines.{Fits}
 use Rattle.edge_lines.specs.Sides.{Square, seated}
 

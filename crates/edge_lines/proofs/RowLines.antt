@@ -3,17 +3,17 @@
 --     back-is                        put back, it is the plane that the window agrees with
 use Prim.Native.Nat.{ℕ, _+_, _-_, _*_, _<_, _≤_}
 use mathlib.Core.Path.{_≡_, refl, sym, ap, subst, _∙_}
-use mathlib.Core.Logic.{_≢_, ⊎-elim}
+use mathlib.Core.Logic.{⊎-elim}
 use mathlib.Core.List.{List}
 use native.Mathlib.Nat.{eq-or-lt-of-le, le-refl}
 use native.Mathlib.Omega.{arith}
 use lib.ListN.{length, getD}
 use Rattle.edge_lines.specs.Lines.{Fits, rowsPut, zeros}
 use Rattle.edge_lines.proofs.Rows.{rows-apart, length-put, put-there, put-beside}
-use Rattle.section15.specs.declared.Limits.{Limits}
-use Rattle.section15.specs.declared.Kind.{Kind}
-use Rattle.section15.specs.LoopFilter.{edge}
-use Rattle.section15.proofs.Reach.{length-edge}
+use Rattle.macroblock.specs.declared.filter.Limits.{Limits}
+use Rattle.macroblock.specs.declared.filter.Kind.{Kind}
+use Rattle.rfc6386.specs.LoopFilter.{edge}
+use Rattle.rfc6386.proofs.FilterReach.{length-edge}
 use Rattle.edge_lines.proofs.Window.{Agree, Distinct, Off, window-back, agree-all, off-all, lt-or-ge}
 use Rattle.edge_lines.proofs.Columns.{zeros-fit}
 

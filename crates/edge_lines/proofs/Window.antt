@@ -12,13 +12,13 @@ use lib.Dec.{eqb}
 use lib.ListN.{length, getD, set, length-set}
 use lib.Seq.{getD-set-same, getD-set-other, ext-getD}
 use borrow.Author.Tests.{eqb-true, eqb-false}
-use Rattle.section15.specs.declared.Across.{Across}
-use Rattle.section15.specs.declared.Limits.{Limits}
-use Rattle.section15.specs.declared.Kind.{Kind}
-use Rattle.section15.specs.LoopFilter.{filtered}
+use Rattle.macroblock.specs.declared.filter.Across.{Across}
+use Rattle.macroblock.specs.declared.filter.Limits.{Limits}
+use Rattle.macroblock.specs.declared.filter.Kind.{Kind}
+use Rattle.rfc6386.specs.LoopFilter.{filtered}
 use Rattle.lists.specs.Lists.{turns}
-use Rattle.section15.proofs.Reach.{length-crossed}
-use Rattle.section15.specs.LoopFilter.{taken, laid, crossed, edgeTurn, edge}
+use Rattle.rfc6386.proofs.FilterReach.{length-crossed}
+use Rattle.rfc6386.specs.LoopFilter.{taken, laid, crossed, edgeTurn, edge}
 
 same-by : (i j : ℕ) (t : Bool) → eqb i j ≡ t → (i ≡ j) ⊎ (i ≢ j)
 same-by i j true e = inl (eqb-true i j e)

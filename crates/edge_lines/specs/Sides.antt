@@ -1,13 +1,12 @@
 -- A macroblock's edges in one direction, where it lies in its plane.
 use Prim.Native.Nat.{ℕ, _+_, _*_, _<_, _≤_}
-use mathlib.Core.Path.{_≡_}
 use mathlib.Core.Bool.{Bool}
 use mathlib.Core.List.{List}
 use lib.Dec.{leb, ltb}
 use lib.ListN.{length}
 use Rattle.lists.specs.Lists.{pick, both}
-use Rattle.section15.specs.declared.Rule.{Rule}
-use Rattle.section15.specs.LoopFilter.{side, corner}
+use Rattle.macroblock.specs.declared.filter.Rule.{Rule}
+use Rattle.rfc6386.specs.LoopFilter.{side, corner}
 
 -- a square of n by n pixels lies in the plane, and its rows do not meet
 pub record Square (b : List ℕ) (n at stride : ℕ) : Type 0 where

@@ -2,13 +2,13 @@
 ghost use mathlib.Core.Path.{_≡_};
 ghost use mathlib.Core.Bool.{true};
 ghost use Prim.Native.Nat.{_*_, _≤_};
-ghost use Rattle.section15.specs.LoopFilter.{ownEdge, innerEdges, side};
+ghost use Rattle.rfc6386.specs.LoopFilter.{ownEdge, innerEdges, side};
 ghost use Rattle.edge_lines.specs.Sides.{Square};
 use crate::luma::inner_kind;
 use crate::luma::outer_kind;
 use crate::pairs::level_pair;
 use crate::pairs::upright_pair;
-use section15::Rule;
+use macroblock::filter::Rule;
 
 fn upright_own(u: &mut [u8], v: &mut [u8], at: usize, stride: usize, there: bool, rule: Rule)
     requires { ⌜ (Square (now u) 8 at stride) × (Square (now v) 8 at stride) × (there ≡ true → 4 ≤ at) ⌝ }

@@ -2,11 +2,11 @@
 ghost use mathlib.Core.Path.{_≡_};
 ghost use Prim.Native.Nat.{ℕ, _+_, _*_, _≤_, _<_};
 ghost use lib.ListN.{length};
-ghost use Rattle.section15.specs.LoopFilter.{taken, laid, crossed, edge};
+ghost use Rattle.rfc6386.specs.LoopFilter.{taken, laid, crossed, edge};
 ghost use Rattle.edge_lines.specs.Lines.{Reaches};
-use section15::Across;
-use section15::Kind;
-use section15::Limits;
+use macroblock::filter::Across;
+use macroblock::filter::Kind;
+use macroblock::filter::Limits;
 
 fn take(plane: &[u8], i: usize, step: usize) -> Across
     requires { ⌜ Reaches (now plane) i step ⌝ }

@@ -1,13 +1,13 @@
 // A level edge of sixteen columns: eight rows are eight lines already.
 ghost use mathlib.Core.Path.{_≡_};
 ghost use Prim.Native.Nat.{_-_, _*_, _≤_};
-ghost use Rattle.section15.specs.LoopFilter.{edge};
+ghost use Rattle.rfc6386.specs.LoopFilter.{edge};
 ghost use Rattle.edge_lines.specs.Lines.{Fits, rowsPut, zeros};
 use crate::copy::blank;
 use crate::copy::copy_sixteens;
 use crate::edge::lines_edge;
-use section15::Kind;
-use section15::Limits;
+use macroblock::filter::Kind;
+use macroblock::filter::Limits;
 
 // Eight rows of sixteen.
 fn rows(y: &[u8], at: usize, stride: usize) -> [u8; 128]

@@ -18,7 +18,7 @@ mod upright;
 ghost use mathlib.Core.Path.{_≡_};
 ghost use Prim.Native.Nat.{_≤_};
 ghost use Rattle.edge_lines.specs.Sides.{seated, uprightAt, levelAt, uprightPair, levelPair};
-use section15::Rule;
+use macroblock::filter::Rule;
 
 // Whether macroblock c of row r, of n pixels a side, lies in a plane of `size` bytes with `cols` macroblocks a row.
 fn seated(n: usize, size: usize, cols: usize, r: usize, c: usize) -> bool

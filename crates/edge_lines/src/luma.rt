@@ -2,12 +2,12 @@
 ghost use mathlib.Core.Path.{_≡_};
 ghost use mathlib.Core.Bool.{true};
 ghost use Prim.Native.Nat.{_*_, _≤_};
-ghost use Rattle.section15.specs.LoopFilter.{outerKind, innerKind, ownEdge, innerEdges, side};
+ghost use Rattle.rfc6386.specs.LoopFilter.{outerKind, innerKind, ownEdge, innerEdges, side};
 ghost use Rattle.edge_lines.specs.Sides.{Square};
 use crate::level::level_edge;
 use crate::upright::upright_edge;
-use section15::Kind;
-use section15::Rule;
+use macroblock::filter::Kind;
+use macroblock::filter::Rule;
 
 pub(crate) fn outer_kind(simple: bool) -> Kind
     ensures { λ r. ⌜ r ≡ outerKind simple ⌝ }

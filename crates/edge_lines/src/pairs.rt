@@ -1,15 +1,15 @@
 // An edge of U and V together: U in lanes 0 to 7, V in lanes 8 to 15.
 ghost use mathlib.Core.Path.{_≡_};
 ghost use Prim.Native.Nat.{_+_, _-_, _*_, _≤_};
-ghost use Rattle.section15.specs.LoopFilter.{edge};
+ghost use Rattle.rfc6386.specs.LoopFilter.{edge};
 ghost use Rattle.edge_lines.specs.Lines.{Fits, rowsPut, zeros};
 use crate::copy::blank;
 use crate::copy::copy_eights;
 use crate::edge::lines_edge;
 use crate::turn::flat;
 use crate::turn::tall;
-use section15::Kind;
-use section15::Limits;
+use macroblock::filter::Kind;
+use macroblock::filter::Limits;
 
 // Eight rows of eight of U, then of V, from byte `from` on and `step` apart.
 fn pair(u: &[u8], v: &[u8], at: usize, stride: usize, from: usize, step: usize) -> [u8; 128]

@@ -1,15 +1,15 @@
 // An upright edge of sixteen rows: eight columns as eight lines.
 ghost use mathlib.Core.Path.{_≡_};
 ghost use Prim.Native.Nat.{_-_, _≤_};
-ghost use Rattle.section15.specs.LoopFilter.{edge};
+ghost use Rattle.rfc6386.specs.LoopFilter.{edge};
 ghost use Rattle.edge_lines.specs.Lines.{Fits, rowsPut, zeros};
 use crate::copy::blank;
 use crate::copy::copy_eights;
 use crate::edge::lines_edge;
 use crate::turn::flat;
 use crate::turn::tall;
-use section15::Kind;
-use section15::Limits;
+use macroblock::filter::Kind;
+use macroblock::filter::Limits;
 
 // Sixteen rows of eight.
 fn eights(y: &[u8], at: usize, stride: usize) -> [u8; 128]

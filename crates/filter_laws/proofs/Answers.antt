@@ -3,15 +3,14 @@
 --     refused-kept                  a refusal leaves the planes as found
 --     simple-u, simple-v            the simple filter leaves U and V as found
 use Prim.Native.Nat.{ℕ}
-use mathlib.Core.Path.{_≡_, refl, sym, ap, _∙_}
+use mathlib.Core.Path.{_≡_, refl}
 use mathlib.Core.Bool.{Bool, true, false}
 use mathlib.Core.List.{List}
 use lib.Dec.{eqb}
-use lib.ListN.{length, getD}
+use lib.ListN.{getD}
 use Rattle.lists.specs.Lists.{pick}
 use Rattle.macroblock.specs.Reply.{done}
-use Rattle.section15.specs.LoopFilter.{lumaOf, chromaOf}
-use Rattle.loop_filter.specs.Picture.{levelOf, levelsOk}
+use Rattle.loop_filter.specs.Picture.{levelOf}
 use Rattle.loop_filter.specs.Answers.{Planes, told, answered, filteredPlanes, levelsAnswer}
 use Rattle.filter_laws.proofs.Planes.{AwayFromAll, luma-keeps, chroma-keeps, simple-chroma}
 

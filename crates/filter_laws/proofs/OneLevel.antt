@@ -1,22 +1,18 @@
 -- The call with one level answers as the call with that level for each macroblock. Assumes nothing.
-use Prim.Native.Nat.{ℕ, zero, suc, _+_, _-_, _*_, _<_, _≤_}
+use Prim.Native.Nat.{ℕ, zero, suc, _-_, _*_, _<_, _≤_}
 use mathlib.Core.Path.{_≡_, refl, sym, ap, _∙_}
-use mathlib.Core.Logic.{⊎-elim}
 use mathlib.Core.Bool.{Bool, true, false}
-use mathlib.Core.List.{List, []}
-use native.Mathlib.Nat.{eq-or-lt-of-le, le-refl, le-of-lt, mul-le-mul}
+use mathlib.Core.List.{List}
+use native.Mathlib.Nat.{le-of-lt, mul-le-mul}
 use native.Mathlib.Omega.{arith}
-use lib.Dec.{leb, ltb, eqb}
+use lib.Dec.{leb, eqb}
 use lib.ListN.{length, getD, replicate, length-replicate, getD-replicate}
 use borrow.Author.Tests.{eq-eqb}
-use Rattle.lists.specs.Lists.{turns, pick, both}
-use Rattle.lists.proofs.Tests.{left-holds}
-use Rattle.macroblock.specs.Reply.{done}
-use Rattle.rfc6386.specs.Picture.{placeOk, sizesOk}
+use Rattle.lists.specs.Lists.{turns, both}
+use Rattle.rfc6386.specs.Picture.{placeOk}
 use Rattle.picture_limits.proofs.Accepted.{place-says}
-use Rattle.section15.specs.LoopFilter.{lumaOf, chromaOf}
 use Rattle.loop_filter.specs.Picture.{levelOf, levelTurn, levelsOk}
-use Rattle.loop_filter.specs.Answers.{fits, refusalOf, Planes, filteredPlanes, answered, filterAnswer, levelsAnswer}
+use Rattle.loop_filter.specs.Answers.{refusalOf, filteredPlanes, filterAnswer, levelsAnswer}
 use Rattle.filter_laws.proofs.Planes.{luma-ext, chroma-ext}
 
 both-same : (b : Bool) → both b b ≡ b

@@ -15,9 +15,9 @@ use lib.ListN.{length, getD}
 use borrow.Author.Tests.{ltb-true}
 use Rattle.lists.specs.Lists.{turns, pick}
 use Rattle.lists.proofs.Nested.{turns-ext}
-use Rattle.section15.specs.declared.Kind.{Kind}
-use Rattle.section15.specs.declared.Rule.{Rule}
-use Rattle.section15.specs.LoopFilter.{
+use Rattle.macroblock.specs.declared.filter.Kind.{Kind}
+use Rattle.macroblock.specs.declared.filter.Rule.{Rule}
+use Rattle.rfc6386.specs.LoopFilter.{
   reach,
   outerKind,
   innerKind,
@@ -37,7 +37,7 @@ use Rattle.section15.specs.LoopFilter.{
   lumaOf,
   chromaOf,
 }
-use Rattle.section15.proofs.Reach.{Beyond, edge-keeps}
+use Rattle.rfc6386.proofs.FilterReach.{Beyond, edge-keeps}
 
 turns-keeps : (n : ℕ) (f : ℕ → List ℕ → List ℕ) (b : List ℕ) (j : ℕ) → ((k : ℕ) → k < n → (m : List ℕ) → getD (f k m) j 0 ≡ getD m j 0)
     → getD (turns n f b) j 0 ≡ getD b j 0

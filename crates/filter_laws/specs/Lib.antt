@@ -1,1 +1,1 @@
--- The theorems cite the definitions of `section15` and `loop_filter`.
+-- The theorems cite the definitions of `rfc6386` and `loop_filter`.

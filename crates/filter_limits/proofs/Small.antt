@@ -1,10 +1,10 @@
 -- The interior limit is no more than the level, or 1: in a byte. Assumes nothing.
-use Prim.Native.Nat.{ℕ, _+_, _-_, _/_, _≤_, min, max}
+use Prim.Native.Nat.{ℕ, _-_, _/_, _≤_, min, max}
 use mathlib.Core.Bool.{Bool, true, false}
 use native.Mathlib.Omega.{arith}
 use lib.Dec.{eqb, ltb}
 use Rattle.lists.specs.Lists.{pick}
-use Rattle.section15.specs.LoopFilter.{interiorOf}
+use Rattle.rfc6386.specs.LoopFilter.{interiorOf}
 
 by : (level sharp : ℕ) (s t : Bool) → level ≤ 63 → max 1 (pick s level (min (9 - sharp) (level / pick t 4 2))) ≤ 63
 by level sharp true t h = omega arith

@@ -3,9 +3,9 @@ ghost use mathlib.Core.Path.{_≡_};
 ghost use Prim.Native.Nat.{_+_, _*_, _/_, _-_, _≤_, min, max};
 ghost use lib.Dec.{ltb};
 ghost use Rattle.lists.specs.Lists.{pick};
-ghost use Rattle.section15.specs.LoopFilter.{interiorOf, hevOf, limitsOf, ruleOf};
-use section15::Limits;
-use section15::Rule;
+ghost use Rattle.rfc6386.specs.LoopFilter.{interiorOf, hevOf, limitsOf, ruleOf};
+use macroblock::filter::Limits;
+use macroblock::filter::Rule;
 
 fn larger(x: u8, y: u8) -> u8
     ensures { λ r. ⌜ r ≡ max x y ⌝ }

@@ -1,6 +1,6 @@
 -- Two directions, one after the other, are a macroblock. Assumes nothing.
 use Prim.Native.Nat.{ℕ, _*_, _≤_, min}
-use mathlib.Core.Path.{_≡_, refl, sym, ap, _∙_}
+use mathlib.Core.Path.{_≡_, refl, ap, _∙_}
 use mathlib.Core.Bool.{Bool, true, false}
 use mathlib.Core.List.{List}
 use lib.Dec.{ltb}
@@ -8,8 +8,8 @@ use lib.ListN.{length}
 use native.Mathlib.Omega.{arith}
 use borrow.Author.Tests.{eq-eqb, ne-eqb}
 use Rattle.lists.specs.Lists.{pick}
-use Rattle.section15.specs.declared.Rule.{Rule}
-use Rattle.section15.specs.LoopFilter.{ruleOf, side, sides, corner, mbOf}
+use Rattle.macroblock.specs.declared.filter.Rule.{Rule}
+use Rattle.rfc6386.specs.LoopFilter.{ruleOf, side, sides, corner, mbOf}
 use Rattle.edge_lines.specs.Sides.{seated, uprightAt, levelAt, uprightPair, levelPair}
 
 module _ (rule : Rule) (n cols r c : ℕ) (inner : Bool) where

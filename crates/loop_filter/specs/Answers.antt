@@ -6,14 +6,10 @@ use mathlib.Core.List.{List}
 use lib.Dec.{leb, ltb, eqb}
 use lib.ListN.{length}
 use Rattle.lists.specs.Lists.{pick, both}
-use Rattle.macroblock.specs.Reply.{done, wrongLength, outsidePicture, unknownByte}
+use Rattle.macroblock.specs.Reply.{done, wrongLength, outsidePicture, unknownByte, outsideLevels}
 use Rattle.rfc6386.specs.Picture.{placeOk, sizesOk}
-use Rattle.section15.specs.LoopFilter.{lumaOf, chromaOf}
+use Rattle.rfc6386.specs.LoopFilter.{lumaOf, chromaOf}
 use Rattle.loop_filter.specs.Picture.{levelOf, levelsOk}
-
--- a level above 63 or a sharpness above 7
-abbrev pub outsideLevels : ℕ
-outsideLevels = 11
 
 -- 256, 64 and 64 bytes a macroblock in the planes, and a byte a macroblock
 abbrev pub fits : ℕ → ℕ → ℕ → ℕ → ℕ → ℕ → ℕ → Bool

@@ -18,23 +18,15 @@ ghost use Prim.Native.Nat.{_*_, _≤_, _<_};
 ghost use lib.Dec.{ltb, leb};
 ghost use lib.ListN.{length};
 ghost use Rattle.lists.specs.Lists.{pick, both};
-ghost use Rattle.section15.specs.LoopFilter.{sides, corner, mbOf, lumaRow, chromaRow, lumaOf, chromaOf};
+ghost use Rattle.rfc6386.specs.LoopFilter.{sides, corner, mbOf, lumaRow, chromaRow, lumaOf, chromaOf};
 ghost use Rattle.edge_lines.specs.Sides.{seated, uprightAt, levelAt};
 ghost use Rattle.loop_filter.specs.Picture.{levelOf, levelsOk, Ready};
 ghost use Rattle.loop_filter.specs.Answers.{refusalOf, filterAnswer, levelsAnswer};
+use macroblock::filter::Rule;
 use macroblock::reply;
-use section15::Rule;
 
 // The upright edges of macroblock c of row r in Y, or its level ones.
-fn luma_way(
-    y: &mut [u8],
-    cols: usize,
-    r: usize,
-    c: usize,
-    upright: bool,
-    inner: bool,
-    rule: Rule,
-)
+fn luma_way(y: &mut [u8], cols: usize, r: usize, c: usize, upright: bool, inner: bool, rule: Rule)
     ensures { λ _. ⌜ now (y .exit) ≡ pick upright (uprightAt rule 16 cols r c inner (now (y .entry))) (levelAt rule 16 cols r c inner (now (y .entry))) ⌝ }
 {
     if upright {
@@ -161,7 +153,18 @@ fn filter_rows(
 {
     for r in 0..rows {
         filter_row(
-            y, u, v, cols, rows, r, simple, sharp, one, level, levels, inner,
+            y,
+            u,
+            v,
+            cols,
+            rows,
+            r,
+            simple,
+            sharp,
+            one,
+            level,
+            levels,
+            inner,
         );
     }
 }
@@ -216,10 +219,10 @@ fn refusal(
         return reply::WRONG_LENGTH;
     }
     if !low {
-        return 11;
+        return reply::OUTSIDE_LEVELS;
     }
     if 7 < sharp {
-        return 11;
+        return reply::OUTSIDE_LEVELS;
     }
     if 1 < kind {
         return reply::UNKNOWN_BYTE;

@@ -32,3 +32,7 @@ outsidePicture = 7
 -- a byte is no mode's number
 abbrev pub unknownByte : ℕ
 unknownByte = 8
+
+-- a filter level is above 63, or a sharpness above 7
+abbrev pub outsideLevels : ℕ
+outsideLevels = 11

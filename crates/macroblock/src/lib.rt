@@ -1,5 +1,6 @@
 // Plain data of a key-frame macroblock: the prediction modes of RFC 6386 sections 8 and 11 with their numbers, the mode
-// record, the neighbour record and the numbers of the replies.
+// record, the neighbour record, the loop filter's data and the numbers of the replies.
+pub mod filter;
 mod modes;
 mod neighbors;
 mod numbers;

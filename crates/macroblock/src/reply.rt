@@ -23,3 +23,6 @@ pub const OUTSIDE_PICTURE: u32 = 7;
 
 // A byte is no mode's number.
 pub const UNKNOWN_BYTE: u32 = 8;
+
+// A filter level is above 63, or a sharpness above 7.
+pub const OUTSIDE_LEVELS: u32 = 11;

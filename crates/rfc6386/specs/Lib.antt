@@ -8,6 +8,7 @@
 --     Subblock      12.3        4x4 prediction
 --     Walk          14.2, 12.3  a macroblock: its luma and its chroma
 --     Picture       12.2        the neighbours of a macroblock of a picture
+--     LoopFilter    15          the loop filter: the pixels across an edge, an edge, a macroblock, a plane
 pub mod Quantiser
 pub mod MbFactors
 pub mod Wht
@@ -17,3 +18,4 @@ pub mod Edges
 pub mod Subblock
 pub mod Walk
 pub mod Picture
+pub mod LoopFilter

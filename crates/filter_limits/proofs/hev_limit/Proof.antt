@@ -1,5 +1,5 @@
 use borrow.Author.Tests.{lt-ltb, le-ltb}
-use Rattle.section15.specs.LoopFilter.{hevOf}
+use Rattle.rfc6386.specs.LoopFilter.{hevOf}
 use Rattle.filter_limits.proofs.hev_limit.Statement.{statement}
 use Rattle.filter_limits.proofs.hev_limit.Tie as tie
 

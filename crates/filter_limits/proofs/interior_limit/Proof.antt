@@ -1,6 +1,6 @@
 use borrow.Author.Needs.{needs}
 use borrow.Author.Tests.{eq-eqb, ne-eqb}
-use Rattle.section15.specs.LoopFilter.{interiorOf}
+use Rattle.rfc6386.specs.LoopFilter.{interiorOf}
 use Rattle.filter_limits.proofs.interior_limit.Statement.{statement}
 use Rattle.filter_limits.proofs.interior_limit.Tie as tie
 

@@ -1,6 +1,6 @@
 use native.Mathlib.Omega.{arith}
 use borrow.Author.Needs.{needs}
-use Rattle.section15.specs.LoopFilter.{limitsOf}
+use Rattle.rfc6386.specs.LoopFilter.{limitsOf}
 use Rattle.filter_limits.proofs.Small.{interior-small}
 use Rattle.filter_limits.proofs.limits.Statement.{statement}
 use Rattle.filter_limits.proofs.limits.Tie as tie

@@ -1,5 +1,5 @@
 use borrow.Author.Needs.{needs}
-use Rattle.section15.specs.LoopFilter.{ruleOf}
+use Rattle.rfc6386.specs.LoopFilter.{ruleOf}
 use Rattle.filter_limits.proofs.rule.Statement.{statement}
 use Rattle.filter_limits.proofs.rule.Tie as tie
 

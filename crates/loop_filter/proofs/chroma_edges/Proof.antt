@@ -1,11 +1,7 @@
-use Prim.Native.Nat.{ℕ, _+_, _-_, _*_, _<_, _≤_}
-use mathlib.Core.Path.{_≡_, refl, sym, ap, _∙_}
-use mathlib.Core.Bool.{Bool, true, false}
+use Prim.Native.Nat.{ℕ, _-_}
+use mathlib.Core.Path.{ap, _∙_}
 use mathlib.Core.List.{List}
-use native.Mathlib.Omega.{arith}
-use lib.ListN.{length, getD}
 use borrow.Author.Needs.{needs}
-use Rattle.section15.specs.LoopFilter.{sides, corner}
 use Rattle.loop_filter.proofs.Both.{chroma-is}
 use Rattle.loop_filter.proofs.chroma_edges.Statement.{statement}
 use Rattle.loop_filter.proofs.chroma_edges.Tie as tie

@@ -1,13 +1,9 @@
-use Prim.Native.Nat.{ℕ, _+_, _-_, _*_, _<_, _≤_}
-use mathlib.Core.Path.{_≡_, refl, sym, ap, _∙_}
-use mathlib.Core.Bool.{Bool, true, false}
-use mathlib.Core.List.{List}
-use native.Mathlib.Omega.{arith}
-use lib.ListN.{length, getD}
+use Prim.Native.Nat.{_-_}
+use mathlib.Core.Path.{sym, _∙_}
 use borrow.Author.Needs.{needs}
 use borrow.Author.Tests.{leb-true}
 use Rattle.loop_filter.specs.Picture.{levelOf}
-use Rattle.loop_filter.specs.Answers.{refusalOf, filteredPlanes, filterAnswer}
+use Rattle.loop_filter.specs.Answers.{filteredPlanes, filterAnswer}
 use Rattle.loop_filter.proofs.Accepted.{low-holds, levels-fit, ready, refused-is, done-is}
 use Rattle.loop_filter.proofs.filter.Statement.{statement}
 use Rattle.loop_filter.proofs.filter.Tie as tie
@@ -23,9 +19,10 @@ filter-rows-requires c κs =
     let k = i .before in
     let a = k .before .before .before .before .before .args in
     let e = sym (k .refusal .ensures) ∙ i .if1 .left in
-    let w = leb-true (a .level) 63 (low-holds (a .cols) (a .rows) (a .y .now) (a .u .now) (a .v .now) (a .inner .now) _ _ (a .sharpness) (a .kind) e) in
-    (ready (a .cols) (a .rows) (a .y .now) (a .u .now) (a .v .now) (a .inner .now) _ _ (a .sharpness) (a .kind) e (λ k. a .level) (λ m q. w),
-    λ o. levels-fit (a .cols) (a .rows) (a .y .now) (a .u .now) (a .v .now) (a .inner .now) _ _ (a .sharpness) (a .kind) e)
+    let w = leb-true (a .level) 63 (low-holds (a .cols) (a .rows) (a .y .now) (a .u .now) (a .v .now) (a .inner .now) _ _ (a .sharpness) (a .kind) e) in (
+      ready (a .cols) (a .rows) (a .y .now) (a .u .now) (a .v .now) (a .inner .now) _ _ (a .sharpness) (a .kind) e (λ k. a .level) (λ m q. w),
+      λ o. levels-fit (a .cols) (a .rows) (a .y .now) (a .u .now) (a .v .now) (a .inner .now) _ _ (a .sharpness) (a .kind) e,
+    )
 
 returns-2 : tie.Need-returns-2
 unfolding filterAnswer filteredPlanes levelOf

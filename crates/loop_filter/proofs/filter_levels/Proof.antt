@@ -1,7 +1,5 @@
-use Prim.Native.Nat.{ℕ, _+_, _-_, _*_, _<_, _≤_}
-use mathlib.Core.Path.{_≡_, refl, sym, ap, _∙_}
-use mathlib.Core.Bool.{Bool, true, false}
-use mathlib.Core.List.{List}
+use Prim.Native.Nat.{_-_}
+use mathlib.Core.Path.{_≡_, refl, sym, _∙_}
 use native.Mathlib.Omega.{arith}
 use lib.ListN.{length, getD}
 use borrow.Author.Needs.{needs}
@@ -29,9 +27,10 @@ filter-rows-requires c κs =
     let a = o .before .before .before .before .before .before .args in
     let e = sym (k .refusal .ensures) ∙ i .if1 .left in
     let f = levels-fit (a .cols) (a .rows) (a .y .now) (a .u .now) (a .v .now) (a .inner .now) _ _ (a .sharpness) (a .kind) e in
-    let w = sym (o .levels-ok .ensures) ∙ low-holds (a .cols) (a .rows) (a .y .now) (a .u .now) (a .v .now) (a .inner .now) _ _ (a .sharpness) (a .kind) e in
-    (ready (a .cols) (a .rows) (a .y .now) (a .u .now) (a .v .now) (a .inner .now) _ _ (a .sharpness) (a .kind) e (λ k. getD (a .levels .now) k 0) (λ m q. levels-low (a .levels .now) w m (omega arith)),
-    λ x. f)
+    let w = sym (o .levels-ok .ensures) ∙ low-holds (a .cols) (a .rows) (a .y .now) (a .u .now) (a .v .now) (a .inner .now) _ _ (a .sharpness) (a .kind) e in (
+      ready (a .cols) (a .rows) (a .y .now) (a .u .now) (a .v .now) (a .inner .now) _ _ (a .sharpness) (a .kind) e (λ k. getD (a .levels .now) k 0) (λ m q. levels-low (a .levels .now) w m (omega arith)),
+      λ x. f,
+    )
 
 returns-2 : tie.Need-returns-2
 unfolding levelsAnswer filteredPlanes levelOf

@@ -1,13 +1,10 @@
-use Prim.Native.Nat.{ℕ, _+_, _-_, _*_, _<_, _≤_}
-use mathlib.Core.Path.{_≡_, refl, sym, ap, _∙_}
-use mathlib.Core.Bool.{Bool, true, false}
-use mathlib.Core.List.{List}
+use Prim.Native.Nat.{_-_, _≤_}
+use mathlib.Core.Path.{_≡_, refl, _∙_}
 use native.Mathlib.Omega.{arith}
-use lib.ListN.{length, getD}
-use borrow.Author.Needs.{needs}
+use lib.ListN.{length}
 use Rattle.lists.specs.Lists.{turns}
 use Rattle.lists.proofs.Turns.{turns-step, turns-done}
-use Rattle.section15.specs.LoopFilter.{lumaAt, chromaAt, lumaRow, chromaRow}
+use Rattle.rfc6386.specs.LoopFilter.{lumaAt, chromaAt, lumaRow, chromaRow}
 use Rattle.loop_filter.specs.Picture.{levelOf}
 use Rattle.loop_filter.proofs.Seats.{byte-in, luma-seated, u-seated, v-seated}
 use Rattle.loop_filter.proofs.filter_row.Statement.{statement}
@@ -73,9 +70,13 @@ filter-macroblock-requires c κs =
     let b = byte-in _ _ _ _ (z .pre .2) (t .loop-test .taken) in
     let i = l .loop .inv in
     let f = c .before .before .before .before .level-at .ensures in
-    let w = h .low _ b in
-    (omega arith, h .sharpness, luma-seated _ _ _ _ _ _ _ _ h _ _ (z .pre .2) (t .loop-test .taken) _ (i .1), u-seated _ _ _ _ _ _ _ _ h _ _ (z .pre .2) (t .loop-test .taken) _ (i .2),
-    v-seated _ _ _ _ _ _ _ _ h _ _ (z .pre .2) (t .loop-test .taken) _ (i .3))
+    let w = h .low _ b in (
+      omega arith,
+      h .sharpness,
+      luma-seated _ _ _ _ _ _ _ _ h _ _ (z .pre .2) (t .loop-test .taken) _ (i .1),
+      u-seated _ _ _ _ _ _ _ _ h _ _ (z .pre .2) (t .loop-test .taken) _ (i .2),
+      v-seated _ _ _ _ _ _ _ _ h _ _ (z .pre .2) (t .loop-test .taken) _ (i .3),
+    )
 
 loop-again : tie.Need-loop-again Inv-loop μ-loop
 loop-again c =

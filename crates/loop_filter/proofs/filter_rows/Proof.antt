@@ -1,13 +1,10 @@
-use Prim.Native.Nat.{ℕ, _+_, _-_, _*_, _<_, _≤_}
-use mathlib.Core.Path.{_≡_, refl, sym, ap, _∙_}
-use mathlib.Core.Bool.{Bool, true, false}
-use mathlib.Core.List.{List}
+use Prim.Native.Nat.{_-_, _≤_}
+use mathlib.Core.Path.{_≡_, refl, _∙_}
 use native.Mathlib.Omega.{arith}
-use lib.ListN.{length, getD}
-use borrow.Author.Needs.{needs}
+use lib.ListN.{length}
 use Rattle.lists.specs.Lists.{turns}
 use Rattle.lists.proofs.Turns.{turns-step, turns-done}
-use Rattle.section15.specs.LoopFilter.{lumaRow, chromaRow, lumaOf, chromaOf}
+use Rattle.rfc6386.specs.LoopFilter.{lumaRow, chromaRow, lumaOf, chromaOf}
 use Rattle.loop_filter.specs.Picture.{levelOf}
 use Rattle.loop_filter.proofs.Seats.{ready-same}
 use Rattle.loop_filter.proofs.filter_rows.Statement.{statement}

@@ -1,9 +1,6 @@
-use Prim.Native.Nat.{ℕ, _+_, _-_, _*_, _<_, _≤_}
-use mathlib.Core.Path.{_≡_, refl, sym, ap, _∙_}
-use mathlib.Core.Bool.{Bool, true, false}
-use mathlib.Core.List.{List}
+use Prim.Native.Nat.{_-_}
+use mathlib.Core.Path.{sym, _∙_}
 use native.Mathlib.Omega.{arith}
-use lib.ListN.{length, getD}
 use borrow.Author.Needs.{needs}
 use native.Mathlib.Nat.{mul-le-mul}
 use borrow.Author.Tests.{not-true, not-false, eq-eqb, ne-eqb, le-leb, lt-leb, lt-ltb, le-ltb}
@@ -18,8 +15,10 @@ returns c = rw (sym (c .before .place-ok .ensures) ∙ not-true _ (c .if1 .taken
 
 returns-2 : tie.Need-returns-2
 unfolding refusalOf
-returns-2 c = rw (sym (c .before .before .before .place-ok .ensures) ∙ not-false _ (c .before .before .if1 .left),
-    sym (c .before .sizes-ok .ensures) ∙ not-true _ (c .if2 .taken))
+returns-2 c = rw (
+  sym (c .before .before .before .place-ok .ensures) ∙ not-false _ (c .before .before .if1 .left),
+  sym (c .before .sizes-ok .ensures) ∙ not-true _ (c .if2 .taken),
+)
 
 mul-n : tie.Need-mul-n
 mul-n c =
@@ -29,53 +28,65 @@ mul-n c =
 
 returns-3 : tie.Need-returns-3
 unfolding refusalOf
-returns-3 c = rw (sym (c .before .before .before .before .place-ok .ensures) ∙ not-false _ (c .before .before .before .if1 .left),
-    sym (c .before .before .sizes-ok .ensures) ∙ not-false _ (c .before .if2 .left),
-    ne-eqb _ _ (c .if3 .taken))
+returns-3 c = rw (
+  sym (c .before .before .before .before .place-ok .ensures) ∙ not-false _ (c .before .before .before .if1 .left),
+  sym (c .before .before .sizes-ok .ensures) ∙ not-false _ (c .before .if2 .left),
+  ne-eqb _ _ (c .if3 .taken),
+)
 
 returns-4 : tie.Need-returns-4
 unfolding refusalOf
-returns-4 c = rw (sym (c .before .before .before .before .before .place-ok .ensures) ∙ not-false _ (c .before .before .before .before .if1 .left),
-    sym (c .before .before .before .sizes-ok .ensures) ∙ not-false _ (c .before .before .if2 .left),
-    eq-eqb _ _ (c .before .if3 .left),
-    ne-eqb _ _ (c .if4 .taken))
+returns-4 c = rw (
+  sym (c .before .before .before .before .before .place-ok .ensures) ∙ not-false _ (c .before .before .before .before .if1 .left),
+  sym (c .before .before .before .sizes-ok .ensures) ∙ not-false _ (c .before .before .if2 .left),
+  eq-eqb _ _ (c .before .if3 .left),
+  ne-eqb _ _ (c .if4 .taken),
+)
 
 returns-5 : tie.Need-returns-5
 unfolding refusalOf
-returns-5 c = rw (sym (c .before .before .before .before .before .before .place-ok .ensures) ∙ not-false _ (c .before .before .before .before .before .if1 .left),
-    sym (c .before .before .before .before .sizes-ok .ensures) ∙ not-false _ (c .before .before .before .if2 .left),
-    eq-eqb _ _ (c .before .before .if3 .left),
-    eq-eqb _ _ (c .before .if4 .left),
-    not-true (c .before .before .before .before .before .before .before .args .low) (c .if5 .taken))
+returns-5 c = rw (
+  sym (c .before .before .before .before .before .before .place-ok .ensures) ∙ not-false _ (c .before .before .before .before .before .if1 .left),
+  sym (c .before .before .before .before .sizes-ok .ensures) ∙ not-false _ (c .before .before .before .if2 .left),
+  eq-eqb _ _ (c .before .before .if3 .left),
+  eq-eqb _ _ (c .before .if4 .left),
+  not-true (c .before .before .before .before .before .before .before .args .low) (c .if5 .taken),
+)
 
 returns-6 : tie.Need-returns-6
 unfolding refusalOf
-returns-6 c = rw (sym (c .before .before .before .before .before .before .before .place-ok .ensures) ∙ not-false _ (c .before .before .before .before .before .before .if1 .left),
-    sym (c .before .before .before .before .before .sizes-ok .ensures) ∙ not-false _ (c .before .before .before .before .if2 .left),
-    eq-eqb _ _ (c .before .before .before .if3 .left),
-    eq-eqb _ _ (c .before .before .if4 .left),
-    not-false (c .before .before .before .before .before .before .before .before .args .low) (c .before .if5 .left),
-    lt-leb _ _ (c .if6 .taken))
+returns-6 c = rw (
+  sym (c .before .before .before .before .before .before .before .place-ok .ensures) ∙ not-false _ (c .before .before .before .before .before .before .if1 .left),
+  sym (c .before .before .before .before .before .sizes-ok .ensures) ∙ not-false _ (c .before .before .before .before .if2 .left),
+  eq-eqb _ _ (c .before .before .before .if3 .left),
+  eq-eqb _ _ (c .before .before .if4 .left),
+  not-false (c .before .before .before .before .before .before .before .before .args .low) (c .before .if5 .left),
+  lt-leb _ _ (c .if6 .taken),
+)
 
 returns-7 : tie.Need-returns-7
 unfolding refusalOf
-returns-7 c = rw (sym (c .before .before .before .before .before .before .before .before .place-ok .ensures) ∙ not-false _ (c .before .before .before .before .before .before .before .if1 .left),
-    sym (c .before .before .before .before .before .before .sizes-ok .ensures) ∙ not-false _ (c .before .before .before .before .before .if2 .left),
-    eq-eqb _ _ (c .before .before .before .before .if3 .left),
-    eq-eqb _ _ (c .before .before .before .if4 .left),
-    not-false (c .before .before .before .before .before .before .before .before .before .args .low) (c .before .before .if5 .left),
-    le-leb _ _ (c .before .if6 .left),
-    le-ltb _ _ (c .if7 .taken))
+returns-7 c = rw (
+  sym (c .before .before .before .before .before .before .before .before .place-ok .ensures) ∙ not-false _ (c .before .before .before .before .before .before .before .if1 .left),
+  sym (c .before .before .before .before .before .before .sizes-ok .ensures) ∙ not-false _ (c .before .before .before .before .before .if2 .left),
+  eq-eqb _ _ (c .before .before .before .before .if3 .left),
+  eq-eqb _ _ (c .before .before .before .if4 .left),
+  not-false (c .before .before .before .before .before .before .before .before .before .args .low) (c .before .before .if5 .left),
+  le-leb _ _ (c .before .if6 .left),
+  le-ltb _ _ (c .if7 .taken),
+)
 
 returns-8 : tie.Need-returns-8
 unfolding refusalOf
-returns-8 c = rw (sym (c .before .before .before .before .before .before .before .before .place-ok .ensures) ∙ not-false _ (c .before .before .before .before .before .before .before .if1 .left),
-    sym (c .before .before .before .before .before .before .sizes-ok .ensures) ∙ not-false _ (c .before .before .before .before .before .if2 .left),
-    eq-eqb _ _ (c .before .before .before .before .if3 .left),
-    eq-eqb _ _ (c .before .before .before .if4 .left),
-    not-false (c .before .before .before .before .before .before .before .before .before .args .low) (c .before .before .if5 .left),
-    le-leb _ _ (c .before .if6 .left),
-    lt-ltb (c .before .before .before .before .before .before .before .before .before .args .kind) 2 (let h = c .if7 .left in omega arith))
+returns-8 c = rw (
+  sym (c .before .before .before .before .before .before .before .before .place-ok .ensures) ∙ not-false _ (c .before .before .before .before .before .before .before .if1 .left),
+  sym (c .before .before .before .before .before .before .sizes-ok .ensures) ∙ not-false _ (c .before .before .before .before .before .if2 .left),
+  eq-eqb _ _ (c .before .before .before .before .if3 .left),
+  eq-eqb _ _ (c .before .before .before .if4 .left),
+  not-false (c .before .before .before .before .before .before .before .before .before .args .low) (c .before .before .if5 .left),
+  le-leb _ _ (c .before .if6 .left),
+  lt-ltb (c .before .before .before .before .before .before .before .before .before .args .kind) 2 (let h = c .if7 .left in omega arith),
+)
 
 pub refusal-spec : {M : Type 1} → statement M
 refusal-spec =

@@ -1,11 +1,9 @@
-use Prim.Native.Nat.{ℕ, _+_, _-_, _*_, _<_, _≤_}
-use mathlib.Core.Path.{_≡_, refl, sym, ap, _∙_}
-use mathlib.Core.Bool.{true, false}
+use Prim.Native.Nat.{_+_, _-_, _*_}
+use mathlib.Core.Path.{refl, _∙_}
 use native.Mathlib.Omega.{arith}
-use lib.ListN.{length}
 use borrow.Author.Needs.{needs}
 use Rattle.edge_lines.proofs.Places.{rows-fit, one}
-use Rattle.section15.specs.LoopFilter.{innerEdges}
+use Rattle.rfc6386.specs.LoopFilter.{innerEdges}
 use Rattle.edge_lines.proofs.chroma.level_inner.Statement.{statement}
 use Rattle.edge_lines.proofs.chroma.level_inner.Tie as tie
 
@@ -27,9 +25,10 @@ returns c =
     let i = e .before .before .before .before .before in
     let a = i .before .before .before .args in
     let k = e .before .inner-kind .ensures in
-    rw (i .if1 .taken)
-    (e .level-pair .ensures .0 ∙ rw k (one _ (a .rule .inner) 8 (a .at) (a .stride) 1 (a .u .now) (a .at + 4 * a .stride) (omega arith)),
-    e .level-pair .ensures .1 ∙ rw k (one _ (a .rule .inner) 8 (a .at) (a .stride) 1 (a .v .now) (a .at + 4 * a .stride) (omega arith)))
+    rw (i .if1 .taken) (
+      e .level-pair .ensures .0 ∙ rw k (one _ (a .rule .inner) 8 (a .at) (a .stride) 1 (a .u .now) (a .at + 4 * a .stride) (omega arith)),
+      e .level-pair .ensures .1 ∙ rw k (one _ (a .rule .inner) 8 (a .at) (a .stride) 1 (a .v .now) (a .at + 4 * a .stride) (omega arith)),
+    )
 
 returns-2 : tie.Need-returns-2
 unfolding innerEdges

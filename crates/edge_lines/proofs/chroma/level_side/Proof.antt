@@ -1,11 +1,9 @@
-use Prim.Native.Nat.{ℕ, _+_, _-_, _*_, _<_, _≤_}
-use mathlib.Core.Path.{_≡_, refl, sym, ap, _∙_}
-use mathlib.Core.Bool.{true, false}
-use native.Mathlib.Omega.{arith}
+use Prim.Native.Nat.{_-_}
+use mathlib.Core.Path.{_≡_}
 use lib.ListN.{length}
 use borrow.Author.Needs.{needs}
 use Rattle.edge_lines.proofs.Places.{square-same}
-use Rattle.section15.specs.LoopFilter.{side}
+use Rattle.rfc6386.specs.LoopFilter.{side}
 use Rattle.edge_lines.proofs.chroma.level_side.Statement.{statement}
 use Rattle.edge_lines.proofs.chroma.level_side.Tie as tie
 

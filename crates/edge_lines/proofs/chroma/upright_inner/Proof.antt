@@ -1,11 +1,9 @@
-use Prim.Native.Nat.{ℕ, _+_, _-_, _*_, _<_, _≤_}
-use mathlib.Core.Path.{_≡_, refl, sym, ap, _∙_}
-use mathlib.Core.Bool.{true, false}
+use Prim.Native.Nat.{_+_, _-_}
+use mathlib.Core.Path.{refl, _∙_}
 use native.Mathlib.Omega.{arith}
-use lib.ListN.{length}
 use borrow.Author.Needs.{needs}
 use Rattle.edge_lines.proofs.Places.{columns-fit, one}
-use Rattle.section15.specs.LoopFilter.{innerEdges}
+use Rattle.rfc6386.specs.LoopFilter.{innerEdges}
 use Rattle.edge_lines.proofs.chroma.upright_inner.Statement.{statement}
 use Rattle.edge_lines.proofs.chroma.upright_inner.Tie as tie
 
@@ -24,9 +22,10 @@ returns c =
     let i = e .before .before .before .before .before in
     let a = i .before .before .before .args in
     let k = e .before .inner-kind .ensures in
-    rw (i .if1 .taken)
-    (e .upright-pair .ensures .0 ∙ rw k (one _ (a .rule .inner) 8 (a .at) 1 (a .stride) (a .u .now) (a .at + 4) (omega arith)),
-    e .upright-pair .ensures .1 ∙ rw k (one _ (a .rule .inner) 8 (a .at) 1 (a .stride) (a .v .now) (a .at + 4) (omega arith)))
+    rw (i .if1 .taken) (
+      e .upright-pair .ensures .0 ∙ rw k (one _ (a .rule .inner) 8 (a .at) 1 (a .stride) (a .u .now) (a .at + 4) (omega arith)),
+      e .upright-pair .ensures .1 ∙ rw k (one _ (a .rule .inner) 8 (a .at) 1 (a .stride) (a .v .now) (a .at + 4) (omega arith)),
+    )
 
 returns-2 : tie.Need-returns-2
 unfolding innerEdges

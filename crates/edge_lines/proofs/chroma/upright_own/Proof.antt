@@ -1,11 +1,9 @@
-use Prim.Native.Nat.{ℕ, _+_, _-_, _*_, _<_, _≤_}
-use mathlib.Core.Path.{_≡_, refl, sym, ap, _∙_}
-use mathlib.Core.Bool.{true, false}
+use Prim.Native.Nat.{_-_}
+use mathlib.Core.Path.{refl}
 use native.Mathlib.Omega.{arith}
-use lib.ListN.{length}
 use borrow.Author.Needs.{needs}
 use Rattle.edge_lines.proofs.Places.{left-fits}
-use Rattle.section15.specs.LoopFilter.{ownEdge}
+use Rattle.rfc6386.specs.LoopFilter.{ownEdge}
 use Rattle.edge_lines.proofs.chroma.upright_own.Statement.{statement}
 use Rattle.edge_lines.proofs.chroma.upright_own.Tie as tie
 

@@ -1,7 +1,7 @@
-use Prim.Native.Nat.{ℕ, _≤_, _-_, _+_, _*_}
-use mathlib.Core.Path.{_≡_, refl, _∙_}
+use Prim.Native.Nat.{_≤_, _-_}
+use mathlib.Core.Path.{_≡_, refl}
 use native.Mathlib.Omega.{arith}
-use lib.ListN.{length, getD, length-set}
+use lib.ListN.{length, length-set}
 use Rattle.lists.specs.Lists.{turns}
 use Rattle.lists.proofs.Turns.{turns-step, turns-done}
 use Rattle.edge_lines.specs.Lines.{putTurn, pasted}

@@ -1,4 +1,4 @@
-use Rattle.section15.specs.LoopFilter.{crossed}
+use Rattle.rfc6386.specs.LoopFilter.{crossed}
 use borrow.Author.Needs.{needs}
 use Rattle.edge_lines.proofs.edge.cross_simple.Statement.{statement}
 use Rattle.edge_lines.proofs.edge.cross_simple.Tie as tie

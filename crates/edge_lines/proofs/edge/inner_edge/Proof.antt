@@ -3,11 +3,10 @@ use Prim.Native.Nat.{ℕ, _≤_, _-_, _+_, _*_}
 use mathlib.Core.Path.{_≡_, refl, ap, _∙_}
 use native.Mathlib.Omega.{arith}
 use lib.ListN.{length}
-use Rattle.section15.specs.declared.Kind.the-variants.{Inner}
+use Rattle.macroblock.specs.declared.filter.Kind.the-variants.{Inner}
 use Rattle.lists.specs.Lists.{turns}
 use Rattle.lists.proofs.Turns.{turns-step, turns-done}
-use Rattle.section15.specs.LoopFilter.{crossed, edgeTurn, edge}
-use Rattle.edge_lines.specs.Lines.{Reaches}
+use Rattle.rfc6386.specs.LoopFilter.{crossed, edgeTurn, edge}
 use Rattle.edge_lines.proofs.edge.inner_edge.Statement.{statement}
 use Rattle.edge_lines.proofs.edge.inner_edge.Tie as tie
 

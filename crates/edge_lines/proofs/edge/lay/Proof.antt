@@ -1,7 +1,7 @@
 use lib.ListN.{length-set}
 use mathlib.Core.Path.{refl}
 use native.Mathlib.Omega.{arith}
-use Rattle.section15.specs.LoopFilter.{laid}
+use Rattle.rfc6386.specs.LoopFilter.{laid}
 use borrow.Author.Needs.{needs}
 use Rattle.edge_lines.proofs.edge.lay.Statement.{statement}
 use Rattle.edge_lines.proofs.edge.lay.Tie as tie

@@ -1,5 +1,5 @@
 use mathlib.Core.Path.{refl}
-use Rattle.section15.specs.LoopFilter.{taken}
+use Rattle.rfc6386.specs.LoopFilter.{taken}
 use borrow.Author.Needs.{needs}
 use Rattle.edge_lines.proofs.edge.take.Statement.{statement}
 use Rattle.edge_lines.proofs.edge.take.Tie as tie

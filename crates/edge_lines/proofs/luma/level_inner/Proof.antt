@@ -1,11 +1,8 @@
-use Prim.Native.Nat.{ℕ, _+_, _-_, _*_, _<_, _≤_}
-use mathlib.Core.Path.{_≡_, refl, sym, ap, _∙_}
-use mathlib.Core.Bool.{true, false}
+use Prim.Native.Nat.{_+_, _-_, _*_}
 use native.Mathlib.Omega.{arith}
-use lib.ListN.{length}
 use borrow.Author.Needs.{needs}
 use Rattle.edge_lines.proofs.Places.{square-same, rows-fit, three}
-use Rattle.section15.specs.LoopFilter.{innerEdges}
+use Rattle.rfc6386.specs.LoopFilter.{innerEdges}
 use Rattle.edge_lines.proofs.luma.level_inner.Statement.{statement}
 use Rattle.edge_lines.proofs.luma.level_inner.Tie as tie
 

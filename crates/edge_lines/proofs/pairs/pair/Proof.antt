@@ -1,9 +1,6 @@
-use Prim.Native.Nat.{ℕ, _+_, _-_, _*_, _<_, _≤_}
-use mathlib.Core.Path.{_≡_, refl, sym, ap, _∙_}
+use Prim.Native.Nat.{_-_}
 use native.Mathlib.Omega.{arith}
-use lib.ListN.{length}
 use borrow.Author.Needs.{needs}
-use Rattle.edge_lines.specs.Lines.{Fits}
 use Rattle.edge_lines.proofs.Rows.{fits-128}
 use Rattle.edge_lines.proofs.pairs.pair.Statement.{statement}
 use Rattle.edge_lines.proofs.pairs.pair.Tie as tie

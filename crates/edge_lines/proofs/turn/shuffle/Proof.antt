@@ -1,9 +1,8 @@
-use Prim.Native.Nat.{ℕ, _≤_, _<_, _-_, _+_, _*_}
-use mathlib.Core.Path.{_≡_, refl, _∙_}
+use Prim.Native.Nat.{ℕ, _≤_, _<_, _-_, _*_}
+use mathlib.Core.Path.{_≡_}
 use native.Mathlib.Omega.{arith}
 use lib.ListN.{length, getD, length-set}
 use borrow.Author.Needs.{needs}
-use Rattle.edge_lines.specs.Lines.{Zipped}
 use Rattle.edge_lines.proofs.Zip.{from, zip-more}
 use Rattle.edge_lines.proofs.turn.shuffle.Statement.{statement}
 use Rattle.edge_lines.proofs.turn.shuffle.Tie as tie

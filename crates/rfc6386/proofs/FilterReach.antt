@@ -8,13 +8,13 @@ use mathlib.Core.Logic.{_≢_}
 use mathlib.Core.List.{List}
 use lib.ListN.{length, getD, set, length-set}
 use lib.Seq.{getD-set-other, set-getD}
-use Rattle.section15.specs.declared.Across.{Across}
-use Rattle.section15.specs.declared.Limits.{Limits}
-use Rattle.section15.specs.declared.Kind.{Kind}
-use Rattle.section15.specs.declared.Kind.the-variants.{Simple, Outer, Inner}
-use Rattle.section15.proofs.Keeps.{simple-p2, simple-p1, simple-q1, simple-q2, inner-p2, inner-q2}
+use Rattle.macroblock.specs.declared.filter.Across.{Across}
+use Rattle.macroblock.specs.declared.filter.Limits.{Limits}
+use Rattle.macroblock.specs.declared.filter.Kind.{Kind}
+use Rattle.macroblock.specs.declared.filter.Kind.the-variants.{Simple, Outer, Inner}
+use Rattle.rfc6386.proofs.FilterKeeps.{simple-p2, simple-p1, simple-q1, simple-q2, inner-p2, inner-q2}
 use Rattle.lists.specs.Lists.{turns}
-use Rattle.section15.specs.LoopFilter.{filtered, taken, laid, crossed, edgeTurn, edge, reach}
+use Rattle.rfc6386.specs.LoopFilter.{filtered, taken, laid, crossed, edgeTurn, edge, reach}
 
 pub length-laid : (step i : ℕ) (x : Across) (b : List ℕ) → length (laid step i x b) ≡ length b
 unfolding laid

@@ -2,11 +2,11 @@
 use Prim.Native.Nat.{ℕ}
 use mathlib.Core.Path.{_≡_, refl}
 use mathlib.Core.Bool.{Bool, true, false}
-use Rattle.section15.specs.declared.Across.{Across}
-use Rattle.section15.specs.declared.Limits.{Limits}
-use Rattle.section15.specs.declared.Kind.the-variants.{Simple, Outer, Inner}
+use Rattle.macroblock.specs.declared.filter.Across.{Across}
+use Rattle.macroblock.specs.declared.filter.Limits.{Limits}
+use Rattle.macroblock.specs.declared.filter.Kind.the-variants.{Simple, Outer, Inner}
 use Rattle.lists.specs.Lists.{pick, both}
-use Rattle.section15.specs.LoopFilter.{near, smooth, steep, common, subblock, filtered}
+use Rattle.rfc6386.specs.LoopFilter.{near, smooth, steep, common, subblock, filtered}
 
 -- a part that one answer keeps is kept by the choice
 one : (f : Across → ℕ) (t : Bool) (y x : Across) → f y ≡ f x → f (pick t y x) ≡ f x

@@ -14,11 +14,11 @@ use lib.ListN.{getD, set}
 use lib.Signed.{shrZ}
 use Rattle.lists.specs.Lists.{turns, pick, both}
 use Rattle.whole.specs.Whole.{clamp}
-use Rattle.section15.specs.declared.Across.{Across}
-use Rattle.section15.specs.declared.Limits.{Limits}
-use Rattle.section15.specs.declared.Kind.{Kind}
-use Rattle.section15.specs.declared.Kind.the-variants.{Simple, Outer, Inner}
-use Rattle.section15.specs.declared.Rule.{Rule}
+use Rattle.macroblock.specs.declared.filter.Across.{Across}
+use Rattle.macroblock.specs.declared.filter.Limits.{Limits}
+use Rattle.macroblock.specs.declared.filter.Kind.{Kind}
+use Rattle.macroblock.specs.declared.filter.Kind.the-variants.{Simple, Outer, Inner}
+use Rattle.macroblock.specs.declared.filter.Rule.{Rule}
 
 unfoldable pub u2s : ℕ → ℤ
 u2s x = pos x -ℤ pos 128

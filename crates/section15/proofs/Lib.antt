@@ -1,3 +1,0 @@
--- Laws of section 15.
-pub mod Keeps
-pub mod Reach

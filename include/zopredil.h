@@ -1,4 +1,4 @@
-/* zopredil.h: the picture code of VP8 key frames (RFC 6386, sections 12 and 14) as a C library.
+/* zopredil.h: the picture code of VP8 key frames (RFC 6386, sections 12, 14 and 15) as a C library.
  *
  * Functions over numbers and slices. A slice is a pointer and a length (size_t), counted in elements and not in bytes.
  * The pointer of a slice of length 0 may be NULL. A slice that is written must not overlap another slice of the same
@@ -16,9 +16,10 @@
  *     5  a sum of quantiser indices is outside signed 32 bits
  *     6  not used: no call answers with it
  *     7  the picture's size or the macroblock's place is outside its limits
- *     8  a byte is no mode's number, or a skip, mark or flag byte is neither 0 nor 1
+ *     8  a byte is no mode's number, a skip, mark or flag byte is neither 0 nor 1, or a filter's kind is neither
  *     9  the bool decoder needs a byte past the end of its partition
  *    10  a token probability is 0
+ *    11  a filter level is above 63, or a sharpness above 7
  *    12  a list has more stills than 4,096
  *
  * Of the slices that are written, plane and the y, u and v of a still are planes, which hold a picture: a refusal
@@ -204,6 +205,38 @@ uint64_t zopredil_still_alone(size_t cols, size_t rows, const uint8_t *modes, si
                               const uint8_t *sub_modes, size_t sub_modes_len, const int16_t *coeffs, size_t coeffs_len,
                               uint8_t *y, size_t y_len, uint8_t *u, size_t u_len, uint8_t *v, size_t v_len,
                               uint64_t *clipped, size_t clipped_len);
+
+/* Filters the planes of a finished still in place: the loop filter of section 15, with one level for the picture.
+ * Prediction uses unfiltered pixels, so it is called once the still is drawn. kind is 0 for the normal filter, 1 for the
+ * simple one, which leaves U and V alone; level is 0 to 63, and 0 filters nothing; sharpness is 0 to 7. inner has a byte
+ * for each macroblock, in raster order: 0 where its inner edges are left alone (a macroblock without coefficients whose
+ * luma mode is not B), any other byte where they are filtered. y has 256, u and v 64 bytes a macroblock, rows unpadded.
+ *
+ * A macroblock's edges in their order, after those of the macroblocks before it: 1 and 5 where a macroblock lies beyond,
+ * the others where its inner edges are filtered. U and V have one inner edge in each direction.
+ *
+ *             1   2   3   4
+ *           5 +---+---+---+---
+ *             |   |   |   |          the normal filter changes at most 3 pixels on either side of
+ *           6 +---+---+---+---       1 and 5, 2 of the others; the simple one changes 1
+ *             |   |   |   |
+ *           7 +---+---+---+---
+ *             |   |   |   |
+ *           8 +---+---+---+---
+ *             |   |   |   |
+ *
+ * Replies: 7 for a side; 1 for any slice; 11 for level or sharpness; 8 for kind. The planes are then as found: nothing
+ * is filtered before all is tested. */
+uint32_t zopredil_filter(size_t cols, size_t rows, uint8_t kind, uint8_t level, uint8_t sharpness,
+                         const uint8_t *inner, size_t inner_len, uint8_t *y, size_t y_len, uint8_t *u, size_t u_len,
+                         uint8_t *v, size_t v_len);
+
+/* The same with a level for each macroblock, a byte each in raster order; 0 leaves that macroblock's edges as they are.
+ * Real encoders code several: libvpx another level for mode B, cwebp one for each segment. With one value in all of
+ * levels it answers as zopredil_filter does with that level. */
+uint32_t zopredil_filter_levels(size_t cols, size_t rows, uint8_t kind, uint8_t sharpness, const uint8_t *levels,
+                                size_t levels_len, const uint8_t *inner, size_t inner_len, uint8_t *y, size_t y_len,
+                                uint8_t *u, size_t u_len, uint8_t *v, size_t v_len);
 
 /* Draws a shelf of n loose macroblocks (14.2, and 12.3 for mode B), where n is replies_len and may be 0. Item k of it,
  * counted from 0, is what zopredil_macroblock draws from part k of each slice, and nothing of another item changes it:

@@ -34,6 +34,10 @@ outsidePicture = 7
 abbrev pub unknownByte : ℕ
 unknownByte = 8
 
+-- a filter level is above 63, or a sharpness above 7
+abbrev pub outsideLevels : ℕ
+outsideLevels = 11
+
 -- all of them, in order
 unfoldable pub replies : List ℕ
-replies = done ∷ wrongLength ∷ outsidePlane ∷ bPred ∷ noSubModes ∷ indexSum ∷ outsidePicture ∷ unknownByte ∷ []
+replies = done ∷ wrongLength ∷ outsidePlane ∷ bPred ∷ noSubModes ∷ indexSum ∷ outsidePicture ∷ unknownByte ∷ outsideLevels ∷ []

@@ -26,8 +26,11 @@ pub const OUTSIDE_PICTURE: u32 = 7;
 // A byte is no mode's number.
 pub const UNKNOWN_BYTE: u32 = 8;
 
+// A filter level is above 63, or a sharpness above 7.
+pub const OUTSIDE_LEVELS: u32 = 11;
+
 // All of them, in order.
-pub fn numbers() -> [u32; 8]
+pub fn numbers() -> [u32; 9]
     ensures { λ r. ⌜ r ≡ replies ⌝ }
 {
     [
@@ -39,5 +42,6 @@ pub fn numbers() -> [u32; 8]
         INDEX_SUM,
         OUTSIDE_PICTURE,
         UNKNOWN_BYTE,
+        OUTSIDE_LEVELS,
     ]
 }

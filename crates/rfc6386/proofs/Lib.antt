@@ -18,6 +18,8 @@
 --     Unused       what changes no plane: the coefficients of a skipped macroblock, a seeded block's own first coefficient
 --     Demand3Planes  demand 3 of each pixel of a plane, and of a sub-block
 --     Pictures     the decay pictures that we already know, as one computed table
+--     FilterKeeps  which of the eight pixels across an edge each loop filter leaves as they are
+--     FilterReach  no pixel beyond a filter's reach changes, at an edge of either direction; a plane keeps its length
 pub mod Quantiser
 pub mod MbFactors
 pub mod Wht
@@ -37,3 +39,5 @@ pub mod Absent
 pub mod Unused
 pub mod Demand3Planes
 pub mod Pictures
+pub mod FilterKeeps
+pub mod FilterReach

@@ -9,6 +9,7 @@
 --     Exact                     how near a pixel is to the exact one
 --     Walk          14.2, 12.3  a macroblock: its luma and its chroma
 --     Picture       12.2        the neighbours of a macroblock of a picture
+--     LoopFilter    15          the loop filter: the pixels across an edge, an edge, a macroblock, a plane
 pub mod Quantiser
 pub mod MbFactors
 pub mod Wht
@@ -19,3 +20,4 @@ pub mod Subblock
 pub mod Exact
 pub mod Walk
 pub mod Picture
+pub mod LoopFilter

@@ -2,6 +2,7 @@
 // a reply, and its promise is one equation to a definition of specs/: what it answers, beside what it leaves in the slices
 // that it writes.
 pub mod distances;
+pub mod filter;
 pub mod macroblocks;
 pub mod neighbours;
 pub mod partitions;

@@ -1,0 +1,1 @@
+-- The theorems cite the definitions of `rfc6386` and `loop_filter`.

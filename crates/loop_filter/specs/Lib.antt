@@ -1,0 +1,3 @@
+-- The definitions that the contracts of `loop_filter` cite.
+pub mod Picture
+pub mod Answers

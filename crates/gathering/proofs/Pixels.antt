@@ -72,11 +72,11 @@ module _ (n m : ℕ) (l : List ℕ) (w c r : ℕ) (right : List ℕ) where
         count = table-length k _;
         inside = λ i t. omega arith;
         pixels =
-          λ i t.
-          let q : (n * r - 1) * (n * w) + (n * c + (at + i) - 1) ≡ from + i = omega arith in
-          table-at k _ i 0 t ∙ row-pixel h (at + i) (omega arith)
-          ∙ pixel-own l (n * w) (n * r - 1) right (n * c + (at + i)) (omega arith) (omega arith)
-          ∙ ap (λ (j : ℕ). getD l j 0) q;
+            λ i t.
+            let q : (n * r - 1) * (n * w) + (n * c + (at + i) - 1) ≡ from + i = omega arith in
+            table-at k _ i 0 t ∙ row-pixel h (at + i) (omega arith)
+            ∙ pixel-own l (n * w) (n * r - 1) right (n * c + (at + i)) (omega arith) (omega arith)
+            ∙ ap (λ (j : ℕ). getD l j 0) q;
       }
 
 module _ {n : ℕ} {l : List ℕ} {w c r : ℕ} (p : Placed n l w c r) where
@@ -101,24 +101,25 @@ module _ {n : ℕ} {l : List ℕ} {w c r : ℕ} (p : Placed n l w c r) where
       record {
         above-outside = λ z. part-absent n m l w c r right z n 1 e;
         above-beside =
-          λ h.
-          let a = above p h in
-          part-there n m l w c r right h n 1 ((n * r - 1) * (n * w) + n * c) e (omega arith) (omega arith) (omega arith) (omega arith);
+            λ h.
+            let a = above p h in
+            part-there n m l w c r right h n 1 ((n * r - 1) * (n * w) + n * c) e (omega arith) (omega arith) (omega arith) (omega arith);
         left-outside = λ z. let f = le-ltb 0 c (omega arith) in record { off = f; zeros = rw f };
         left-beside = left-column;
         top-left-outside = λ z. (le-ltb 0 r (omega arith), rw (row-zeros n m l w c r right z) (getD-replicate m 0 0 0 (omega arith)));
         top-left-margin =
-          λ h z.
-          let q : n * c + 0 ≡ 0 = rw z (omega arith) in
-          (lt-ltb 0 r h, row-pixel n m l w c r right h 0 (omega arith) ∙ pixel-margin l (n * w) (n * r - 1) right (n * c + 0) q);
+            λ h z.
+            let q : n * c + 0 ≡ 0 = rw z (omega arith) in
+            (lt-ltb 0 r h, row-pixel n m l w c r right h 0 (omega arith) ∙ pixel-margin l (n * w) (n * r - 1) right (n * c + 0) q);
         top-left-beside =
-          λ h g.
-          let a = above p h in
-          let b = left p g in
-          let q : n * c + 0 - 1 ≡ n * c - 1 = omega arith in
-          (lt-ltb 0 r h,
-          row-pixel n m l w c r right h 0 (omega arith) ∙ pixel-own l (n * w) (n * r - 1) right (n * c + 0) (omega arith) (omega arith)
-          ∙ ap (λ (j : ℕ). getD l ((n * r - 1) * (n * w) + j) 0) q);
+            λ h g.
+            let a = above p h in
+            let b = left p g in
+            let q : n * c + 0 - 1 ≡ n * c - 1 = omega arith in (
+              lt-ltb 0 r h,
+              row-pixel n m l w c r right h 0 (omega arith) ∙ pixel-own l (n * w) (n * r - 1) right (n * c + 0) (omega arith) (omega arith)
+                  ∙ ap (λ (j : ℕ). getD l ((n * r - 1) * (n * w) + j) 0) q,
+            );
       }
 
 -- ---- the last four of a luma row
@@ -131,11 +132,11 @@ module _ (l : List ℕ) (w c r : ℕ) (right : List ℕ) where
   right-given h z e = (
     lt-ltb 0 r h,
     ext-getD 0 (table 4 _) right (table-length 4 _ ∙ sym e)
-    (λ i k.
-    let b : i < 4 = rw (table-length 4 (λ j. getD (rowAbove 16 21 l w c r right) (17 + j) 0)) at k in
-    let q : 16 * c + (17 + i) - 16 * w - 1 ≡ i = omega arith in
-    table-at 4 _ i 0 b ∙ row-pixel 16 21 l w c r right h (17 + i) (omega arith)
-    ∙ pixel-right l (16 * w) (16 * r - 1) right (16 * c + (17 + i)) (omega arith) ∙ ap (λ (j : ℕ). getD right j 0) q),
+        (λ i k.
+        let b : i < 4 = rw (table-length 4 (λ j. getD (rowAbove 16 21 l w c r right) (17 + j) 0)) at k in
+        let q : 16 * c + (17 + i) - 16 * w - 1 ≡ i = omega arith in
+        table-at 4 _ i 0 b ∙ row-pixel 16 21 l w c r right h (17 + i) (omega arith)
+        ∙ pixel-right l (16 * w) (16 * r - 1) right (16 * c + (17 + i)) (omega arith) ∙ ap (λ (j : ℕ). getD right j 0) q),
   )
 
   pub right-beside : Placed 16 l w c r → 0 < r → c + 1 < w

@@ -45,7 +45,6 @@ module _ (n w : ℕ) (l m : List ℕ) (some : 0 < n) where
   left-same r (suc c) h =
       rw (lt-ltb 0 (suc c) (omega arith)) (table-ext n _ _ (λ i k. rw (last-column n w r c i some) (h c refl i (n - 1) k (omega arith))))
 
-
 -- ---- the row above, k pixels of it: the corner, the n above, and what stands right of them, up to four
 module _ (n w : ℕ) (l m : List ℕ) (four : 4 ≤ n) (right other : List ℕ) (k r c : ℕ) (most : k ≤ n + 5) (inside : c < w)
     (corner : (t : ℕ) → c ≡ suc t → SameBlock n w l m r t) (over : SameBlock n w l m r c)

@@ -93,11 +93,7 @@ pub fn uv_plane(
 {
     let row = edges.row;
     let left = edges.left;
-    let p = intra_edges::pixel_or(
-        MbNeighbors::ABOVE,
-        row[0],
-        edges.topleft_there,
-    );
+    let p = intra_edges::pixel_or(MbNeighbors::ABOVE, row[0], edges.topleft_there);
     let prediction = intra_predict::predict_uv8x8(
         mode,
         edges.above(),

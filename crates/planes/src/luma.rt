@@ -23,11 +23,7 @@ fn predicted(mode: IntraYMode, edges: LumaEdges) -> [u8; 256]
 {
     let row = edges.row;
     let left = edges.left;
-    let p = intra_edges::pixel_or(
-        MbNeighbors::ABOVE,
-        row[0],
-        edges.topleft_there,
-    );
+    let p = intra_edges::pixel_or(MbNeighbors::ABOVE, row[0], edges.topleft_there);
     let prediction = intra_predict::predict_y16x16(
         mode,
         edges.above(),

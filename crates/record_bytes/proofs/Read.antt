@@ -35,28 +35,28 @@ pub read-back : (n : MbNeighbors) → Sized n → recordOf (bytesOf n) ≡ n
 unfolding table part lumaMarks chromaMarks lumaBytes chromaBytes lumaOf chromaOf recordOf bytesOf
 read-back n z = λ i. record {
   y =
-    record {
-      row = whole-part 21 (n .y .row) (z .row) i;
-      «topleft_there» = mark-back (n .y .«topleft_there») i;
-      «above_there» = mark-back (n .y .«above_there») i;
-      «above_right_there» = mark-back (n .y .«above_right_there») i;
-      left = whole-part 16 (n .y .left) (z .left) i;
-      «left_there» = mark-back (n .y .«left_there») i;
-    };
+      record {
+        row = whole-part 21 (n .y .row) (z .row) i;
+        «topleft_there» = mark-back (n .y .«topleft_there») i;
+        «above_there» = mark-back (n .y .«above_there») i;
+        «above_right_there» = mark-back (n .y .«above_right_there») i;
+        left = whole-part 16 (n .y .left) (z .left) i;
+        «left_there» = mark-back (n .y .«left_there») i;
+      };
   u =
-    record {
-      row = whole-part 9 (n .u .row) (z .u-row) i;
-      «topleft_there» = mark-back (n .u .«topleft_there») i;
-      «above_there» = mark-back (n .u .«above_there») i;
-      left = whole-part 8 (n .u .left) (z .u-left) i;
-      «left_there» = mark-back (n .u .«left_there») i;
-    };
+      record {
+        row = whole-part 9 (n .u .row) (z .u-row) i;
+        «topleft_there» = mark-back (n .u .«topleft_there») i;
+        «above_there» = mark-back (n .u .«above_there») i;
+        left = whole-part 8 (n .u .left) (z .u-left) i;
+        «left_there» = mark-back (n .u .«left_there») i;
+      };
   v =
-    record {
-      row = whole-part 9 (n .v .row) (z .v-row) i;
-      «topleft_there» = mark-back (n .v .«topleft_there») i;
-      «above_there» = mark-back (n .v .«above_there») i;
-      left = whole-part 8 (n .v .left) (z .v-left) i;
-      «left_there» = mark-back (n .v .«left_there») i;
-    };
+      record {
+        row = whole-part 9 (n .v .row) (z .v-row) i;
+        «topleft_there» = mark-back (n .v .«topleft_there») i;
+        «above_there» = mark-back (n .v .«above_there») i;
+        left = whole-part 8 (n .v .left) (z .v-left) i;
+        «left_there» = mark-back (n .v .«left_there») i;
+      };
 }

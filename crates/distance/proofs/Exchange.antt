@@ -47,7 +47,7 @@ module _ (a b : List ℕ) where
       rw (
         total-ext n (λ i. squareAt a b (at + i)) (λ i. squareAt b a (at + i)) (λ i h. square-swap (at + i)),
         largest-ext n (λ i. apartAt a b (at + i)) (λ i. apartAt b a (at + i)) (λ i h. apart-swap (at + i)),
-        total-ext n (λ i. sameAt a b (at + i)) (λ i. sameAt b a (at + i)) (λ i h. same-swap (at + i))
+        total-ext n (λ i. sameAt a b (at + i)) (λ i. sameAt b a (at + i)) (λ i h. same-swap (at + i)),
       )
 
 -- ---- stills
@@ -71,7 +71,7 @@ module _ (sizes a b : List ℕ) where
       rw (
         total-ext n (λ k. stillAt sizes a b k .squares) (λ k. stillAt sizes b a k .squares) (λ k h. ap (λ (d : Distance). d .squares) (still-swap k)),
         largest-ext n (λ k. stillAt sizes a b k .largest) (λ k. stillAt sizes b a k .largest) (λ k h. ap (λ (d : Distance). d .largest) (still-swap k)),
-        total-ext n (λ k. stillAt sizes a b k .equal) (λ k. stillAt sizes b a k .equal) (λ k h. ap (λ (d : Distance). d .equal) (still-swap k))
+        total-ext n (λ k. stillAt sizes a b k .equal) (λ k. stillAt sizes b a k .equal) (λ k h. ap (λ (d : Distance). d .equal) (still-swap k)),
       )
 
 -- ---- the whole call
@@ -87,5 +87,5 @@ answer-swap sizes drawn measured reports totals =
     rw (
       refusal-swap sizes (length drawn) (length measured) (length reports),
       reported-swap sizes drawn measured (length sizes / 2),
-      summed-swap sizes drawn measured (length sizes / 2)
+      summed-swap sizes drawn measured (length sizes / 2),
     )

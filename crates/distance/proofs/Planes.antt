@@ -46,7 +46,7 @@ module _ (a b : List ℕ) (at n : ℕ) (p : at + n ≤ length a) (q : at + n ≤
       rw (
         total-ext n (λ i. squareAt pa pb (0 + i)) (λ i. squareAt a b (at + i)) square-part,
         largest-ext n (λ i. apartAt pa pb (0 + i)) (λ i. apartAt a b (at + i)) apart-part,
-        total-ext n (λ i. sameAt pa pb (0 + i)) (λ i. sameAt a b (at + i)) same-part
+        total-ext n (λ i. sameAt pa pb (0 + i)) (λ i. sameAt a b (at + i)) same-part,
       )
 
   fits : n % 256 ≡ 0 → n ≤ 268435456 → comparable n n ≡ true

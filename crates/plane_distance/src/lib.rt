@@ -154,7 +154,6 @@ fn larger_of(x: u64, y: u64) -> u64
     if x < y { y } else { x }
 }
 
-
 fn nothing() -> Distance
     ensures { λ r. ⌜ r ≡ noDistance ⌝ }
 {

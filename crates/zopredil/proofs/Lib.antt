@@ -1,2 +1,3 @@
 -- Each promise of the C interface admits one answer only.
 pub mod OneAnswer
+pub mod OneDistance

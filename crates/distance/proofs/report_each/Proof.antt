@@ -84,7 +84,7 @@ together-requires c κs =
         ap (λ (x : Distance). x .squares) one,
         sum-squares-≤ z d m s p q k (omega arith),
         still-squares-≤ z d m s p q k (omega arith),
-        start .pre .few
+        start .pre .few,
       ),
       omega (
         arith,
@@ -92,7 +92,7 @@ together-requires c κs =
         ap (λ (x : Distance). x .equal) one,
         sum-equal-≤ z d m s k (omega arith),
         still-equal-≤ z d m s k (omega arith),
-        start .pre .few
+        start .pre .few,
       ),
     )
 

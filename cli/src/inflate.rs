@@ -251,10 +251,19 @@ mod tests {
 
     #[test]
     fn stored_fixed_and_own_codes() {
-        // by zlib: nothing; "abc" stored; "abcabcabcabc" in fixed codes; a text in codes of its own
+        // by zlib: nothing; three letters stored; the same four times over in fixed codes; small numbers in own codes
         holds(&[0x03, 0x00], b"");
         holds(&[0x01, 3, 0, 0xfc, 0xff, b'a', b'b', b'c'], b"abc");
         holds(&[0x4b, 0x4c, 0x4a, 0x4e, 0x84, 0x21, 0x00], b"abcabcabcabc");
+        let numbers: Vec<u8> = (0..60u64).map(|i| (i.pow(5) * 7 / 3 % 11) as u8).collect();
+        #[rustfmt::skip]
+        holds(
+            &[
+                0x75, 0xca, 0xc1, 0x11, 0x00, 0x30, 0x08, 0x02, 0x30, 0xa1, 0x07, 0xc2, 0xfe, 0x0b, 0x77, 0x02, 0xf3, 0xce,
+                0x30, 0x66, 0x85, 0x18, 0xcf, 0xa8, 0x19, 0xa1, 0xda, 0x8a, 0x35, 0x22, 0x66, 0xee, 0xf0, 0x01,
+            ],
+            &numbers,
+        );
     }
 
     #[test]

@@ -65,9 +65,10 @@ fn job(mut words: Words) -> Result<Job, Failure> {
             },
         }
     }
-    let (pairs, rest) = files.as_chunks::<2>();
-    let pairs = pairs.to_vec();
-    if pairs.is_empty() || !rest.is_empty() {
+    let twos = files.chunks_exact(2);
+    let odd = !twos.remainder().is_empty();
+    let pairs: Vec<[PathBuf; 2]> = twos.map(|two| [two[0].clone(), two[1].clone()]).collect();
+    if pairs.is_empty() || odd {
         return Err(wrong("distance wants stills and their measured pictures, by twos"));
     }
     if pairs.len() > MOST {

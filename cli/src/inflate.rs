@@ -48,7 +48,7 @@ impl Bits<'_> {
     }
 
     /// Lets the rest of a byte go, and hands back the whole bytes that are held.
-    fn to_byte(&mut self) {
+    fn next_byte(&mut self) {
         self.next -= self.count as usize / 8;
         self.held = 0;
         self.count = 0;
@@ -157,68 +157,17 @@ fn own(bits: &mut Bits<'_>) -> Result<(Code, Code), Wrong> {
 
 /// The bytes of a coded block, behind those that are out already.
 fn coded(bits: &mut Bits<'_>, out: &mut Vec<u8>, most: usize, codes: (Code, Code)) -> Result<(), Wrong> {
+    #[rustfmt::skip]
     const LENGTHS: [(u16, u32); 29] = [
-        (3, 0),
-        (4, 0),
-        (5, 0),
-        (6, 0),
-        (7, 0),
-        (8, 0),
-        (9, 0),
-        (10, 0),
-        (11, 1),
-        (13, 1),
-        (15, 1),
-        (17, 1),
-        (19, 2),
-        (23, 2),
-        (27, 2),
-        (31, 2),
-        (35, 3),
-        (43, 3),
-        (51, 3),
-        (59, 3),
-        (67, 4),
-        (83, 4),
-        (99, 4),
-        (115, 4),
-        (131, 5),
-        (163, 5),
-        (195, 5),
-        (227, 5),
-        (258, 0),
+        (3, 0), (4, 0), (5, 0), (6, 0), (7, 0), (8, 0), (9, 0), (10, 0), (11, 1), (13, 1), (15, 1), (17, 1), (19, 2),
+        (23, 2), (27, 2), (31, 2), (35, 3), (43, 3), (51, 3), (59, 3), (67, 4), (83, 4), (99, 4), (115, 4), (131, 5),
+        (163, 5), (195, 5), (227, 5), (258, 0),
     ];
+    #[rustfmt::skip]
     const BACK: [(u16, u32); 30] = [
-        (1, 0),
-        (2, 0),
-        (3, 0),
-        (4, 0),
-        (5, 1),
-        (7, 1),
-        (9, 2),
-        (13, 2),
-        (17, 3),
-        (25, 3),
-        (33, 4),
-        (49, 4),
-        (65, 5),
-        (97, 5),
-        (129, 6),
-        (193, 6),
-        (257, 7),
-        (385, 7),
-        (513, 8),
-        (769, 8),
-        (1025, 9),
-        (1537, 9),
-        (2049, 10),
-        (3073, 10),
-        (4097, 11),
-        (6145, 11),
-        (8193, 12),
-        (12289, 12),
-        (16385, 13),
-        (24577, 13),
+        (1, 0), (2, 0), (3, 0), (4, 0), (5, 1), (7, 1), (9, 2), (13, 2), (17, 3), (25, 3), (33, 4), (49, 4), (65, 5),
+        (97, 5), (129, 6), (193, 6), (257, 7), (385, 7), (513, 8), (769, 8), (1025, 9), (1537, 9), (2049, 10),
+        (3073, 10), (4097, 11), (6145, 11), (8193, 12), (12289, 12), (16385, 13), (24577, 13),
     ];
     let (literals, distances) = codes;
     loop {
@@ -258,7 +207,7 @@ pub fn inflate(stream: &[u8], most: usize) -> Result<(Vec<u8>, usize), Wrong> {
         let last = bits.take(1)? == 1;
         match bits.take(2)? {
             0 => {
-                bits.to_byte();
+                bits.next_byte();
                 let head = stream.get(bits.next..bits.next + 4).ok_or(Wrong::Short)?;
                 let length = u16::from_le_bytes([head[0], head[1]]);
                 if u16::from_le_bytes([head[2], head[3]]) != !length {
@@ -280,7 +229,7 @@ pub fn inflate(stream: &[u8], most: usize) -> Result<(Vec<u8>, usize), Wrong> {
             _ => return Err(Wrong::Damaged),
         }
         if last {
-            bits.to_byte();
+            bits.next_byte();
             return Ok((out, bits.next));
         }
     }
@@ -302,10 +251,19 @@ mod tests {
 
     #[test]
     fn stored_fixed_and_own_codes() {
-        // by zlib: nothing; "abc" stored; "abcabcabcabc" in fixed codes; a text in codes of its own
+        // by zlib: nothing; three letters stored; the same four times over in fixed codes; small numbers in own codes
         holds(&[0x03, 0x00], b"");
         holds(&[0x01, 3, 0, 0xfc, 0xff, b'a', b'b', b'c'], b"abc");
         holds(&[0x4b, 0x4c, 0x4a, 0x4e, 0x84, 0x21, 0x00], b"abcabcabcabc");
+        let numbers: Vec<u8> = (0..60u64).map(|i| (i.pow(5) * 7 / 3 % 11) as u8).collect();
+        #[rustfmt::skip]
+        holds(
+            &[
+                0x75, 0xca, 0xc1, 0x11, 0x00, 0x30, 0x08, 0x02, 0x30, 0xa1, 0x07, 0xc2, 0xfe, 0x0b, 0x77, 0x02, 0xf3, 0xce,
+                0x30, 0x66, 0x85, 0x18, 0xcf, 0xa8, 0x19, 0xa1, 0xda, 0x8a, 0x35, 0x22, 0x66, 0xee, 0xf0, 0x01,
+            ],
+            &numbers,
+        );
     }
 
     #[test]

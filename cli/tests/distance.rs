@@ -61,7 +61,7 @@ fn pixels_by_hand_in_an_odd_size() {
     pixels[0] -= 3;
     fs::write(here.join("m.pgm"), pgm(17, 5, &pixels)).unwrap();
     let said = drawn(&here, &["distance", "a.still", "m.pgm"]);
-    // 109 / 85 is 1.28: its root is 1.13, and 65025 / 1.28.. is 47.06 decibels
+    // 109 / 85 is 1.28: its root is 1.13, and 65025 / 1.28 is 47.05 decibels
     assert_eq!(cells(said.lines().nth(1).unwrap()), ["a.still", "109", "1.13", "47.05", "10", "83", "97.64%"]);
     // beside an equal one: the sums add up, the largest stays
     fs::write(here.join("e.pgm"), pgm(17, 5, &own_pixels(&here))).unwrap();

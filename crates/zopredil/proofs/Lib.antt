@@ -15,3 +15,4 @@ pub mod Record
 pub mod Gathered
 pub mod Index
 pub mod OneAnswer
+pub mod OneDistance

@@ -2,7 +2,7 @@
 # repository's root. What they make stands in target/.
 
 # The files of the Rust that are used.
-rust_files='dequant.rs intra_predict.rs inverse_transform.rs macroblock.rs reconstruct.rs'
+rust_files='dct_tokens.rs dequant.rs intra_predict.rs inverse_transform.rs macroblock.rs reconstruct.rs'
 
 # take_rust FOLDER: copies the Rust's files to target/rust-src and says which they are. Copies and not links, so that no
 # tool that follows the paths of a source file can write to the folder that was given.
@@ -25,10 +25,18 @@ build_rust() {
         oracle/src/vp8/lib.rs -o "$out/libvp8.rlib"
 }
 
+# build_reader OUT: the second reader of key frames and the second loop filter as OUT/libreader.rlib.
+build_reader() {
+    mkdir -p "$1"
+    rustc --edition 2021 --crate-type rlib --crate-name reader -C opt-level=3 oracle/src/reader/lib.rs \
+        -o "$1/libreader.rlib"
+}
+
 # build_judge OUT: what must be answered, and the data that is tried, as OUT/libjudge.rlib.
 build_judge() {
+    build_reader "$1"
     rustc --edition 2021 --crate-type rlib --crate-name judge -C opt-level=3 --extern vp8="$1/libvp8.rlib" \
-        oracle/src/judge/lib.rs -o "$1/libjudge.rlib"
+        --extern reader="$1/libreader.rlib" oracle/src/judge/lib.rs -o "$1/libjudge.rlib"
 }
 
 # find_archive: sets archive to the folder of libzopredil.a. Without ZOPREDIL_LIB_DIR that is target/host, and the

@@ -26,6 +26,7 @@
 //! A call that can be refused answers with a [`Reply`]. Where the types rule every refusal out, the function returns its
 //! result as it is. [`raw`] has the C functions themselves.
 
+mod filter;
 mod macroblock;
 mod modes;
 mod neighbors;
@@ -34,8 +35,10 @@ pub mod raw;
 mod reply;
 mod shelf;
 mod still;
+mod tokens;
 mod transform;
 
+pub use filter::{filter, filter_levels, FilterKind};
 pub use macroblock::{gather, macroblock, right_pixels, Macroblock};
 pub use modes::{IntraBmode, IntraUvMode, IntraYMode, MbModes};
 pub use neighbors::Neighbors;
@@ -43,6 +46,7 @@ pub use predict::{predict_b4x4, predict_uv8x8, predict_y16x16};
 pub use reply::Reply;
 pub use shelf::{shelf, Job, MbPlanes, Shelf};
 pub use still::{still, still_alone, PlanesMut, Still, StillRefused};
+pub use tokens::{Contexts, Partition};
 pub use transform::{
     add_residue, dequant_block, dequantise, inverse_dct, inverse_dct_add_into, inverse_wht, inverse_wht_dc_only,
     y1_factors, MbDequantFactors, QuantIndices, Y1DequantFactors,

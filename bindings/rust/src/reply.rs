@@ -20,10 +20,16 @@ pub enum Reply {
     OutsidePicture = 7,
     /// A byte is no mode's number, or a skip or mark byte is neither 0 nor 1.
     UnknownByte = 8,
+    /// The bool decoder needs a byte past the end of its partition.
+    PastEnd = 9,
+    /// A token probability is 0.
+    ZeroProbability = 10,
+    /// A loop filter level is above 63, or the sharpness above 7.
+    LevelOrSharpness = 11,
 }
 
 impl Reply {
-    const ALL: [Reply; 7] = [
+    const ALL: [Reply; 10] = [
         Reply::WrongLength,
         Reply::OutsidePlane,
         Reply::BPredNotSupported,
@@ -31,6 +37,9 @@ impl Reply {
         Reply::IndexSum,
         Reply::OutsidePicture,
         Reply::UnknownByte,
+        Reply::PastEnd,
+        Reply::ZeroProbability,
+        Reply::LevelOrSharpness,
     ];
 
     /// The reply's number.
@@ -42,7 +51,7 @@ impl Reply {
         self as u32
     }
 
-    /// The reply of a number: none for 0, which is no refusal, for 6, which is not used, and for numbers above 8.
+    /// The reply of a number: none for 0, which is no refusal, for 6, which is not used, and for numbers above 11.
     ///
     /// ```
     /// use zopredil::Reply;
@@ -66,6 +75,9 @@ impl fmt::Display for Reply {
             Reply::IndexSum => "a sum of quantiser indices is outside signed 32 bits",
             Reply::OutsidePicture => "the picture's size or the macroblock's place is outside its limits",
             Reply::UnknownByte => "a byte is no mode's number, or a skip or mark byte is neither 0 nor 1",
+            Reply::PastEnd => "the bool decoder needs a byte past the end of its partition",
+            Reply::ZeroProbability => "a token probability is 0",
+            Reply::LevelOrSharpness => "a loop filter level is above 63, or the sharpness above 7",
         })
     }
 }

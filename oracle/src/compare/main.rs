@@ -2,6 +2,7 @@
 //! project's papers. A line for each function says how many calls were compared and how many differ; the status is 1
 //! where any does.
 
+mod filters;
 mod gathering;
 mod lengths;
 mod library;
@@ -10,6 +11,7 @@ mod replay;
 mod shelves;
 mod stills;
 mod tally;
+mod tokens;
 mod transforms;
 mod walkers;
 
@@ -62,13 +64,15 @@ fn compare() -> Result<bool, String> {
     gathering::right_pixels(&mut run);
     let stills = stills::stills(&mut run);
     let shelved = shelves::shelves(&mut run);
+    let read = tokens::tokens(&mut run);
+    let filtered = filters::filters(&mut run);
     lengths::wrong_lengths(&mut run);
     if let Some(file) = words.sample {
         let bytes = std::fs::read(&file).map_err(|why| format!("{file}: {why}"))?;
         replay::sample(&bytes, &mut run);
     }
     print!("in all {blocks} blocks, {macroblocks} macroblocks, {stills} stills and {shelved} macroblocks on shelves; ");
-    println!("differing {}", run.differing);
+    println!("{read} macroblocks read and {filtered} filtered; differing {}", run.differing);
     Ok(run.differing == 0)
 }
 

@@ -4,6 +4,8 @@
 pub mod clipped;
 pub mod data;
 pub mod expected;
+pub mod filter;
 pub mod format;
 pub mod random;
 pub mod still;
+pub mod tokens;

@@ -104,7 +104,7 @@ struct Tallies {
     reader: Tally,
 }
 
-/// A partition that is read by the library and by what is expected of it.
+/// A partition that is read by the library and by what is expected of it; the state is the second reader's.
 struct Reading<'a> {
     bytes: &'a [u8],
     probabilities: &'a [u8; 1056],
@@ -115,9 +115,8 @@ struct Reading<'a> {
 
 impl<'a> Reading<'a> {
     fn new(bytes: &'a [u8], probabilities: &'a [u8; 1056]) -> Reading<'a> {
-        let mut state = [!0; 4];
-        assert_eq!(library::bool_start(bytes, &mut state), 0, "a start is not refused");
-        Reading { bytes, probabilities, state, place: expected::start(bytes), second: Bools::new(bytes) }
+        let second = Bools::new(bytes);
+        Reading { bytes, probabilities, state: second.state(), place: expected::start(bytes), second }
     }
 
     /// The partition in a message: its length and its first bytes.
@@ -135,21 +134,18 @@ impl<'a> Reading<'a> {
         let reply = library::tokens(bytes, probs, y2, a.slice(), l.slice(), s.slice(), c.slice());
         let mut coeffs = [0x7E7E; 400];
         let right = expected::tokens(probs, y2, above, left, Some(&mut self.place), &mut coeffs);
-        self.state.copy_from_slice(s.slice());
-        // a place is the Rust's and not four numbers: of the state it is known that a refusal leaves it
-        let state_kept = right == 0 || self.state == before.2;
-        let equal = reply == right && a.holds(above) && l.holds(left) && c.holds(&coeffs) && s.holds(&self.state.clone());
+        self.others(y2, start, &before, right == 0, (&coeffs, above, left), tallies);
+        let equal = reply == right && a.holds(above) && l.holds(left) && c.holds(&coeffs) && s.holds(&self.state);
         let tally = if right == 0 { &mut tallies.read } else { &mut tallies.past };
-        tally.count(equal && state_kept, || {
+        tally.count(equal, || {
             let (above, left, state) = before;
             let bytes = self.told();
             format!("replies {reply} {right}, y2 {y2} above {above:?} left {left:?} state {state:?} {bytes}")
         });
-        self.others(y2, start, &before, right == 0, (&coeffs, above, left), tallies);
         right == 0
     }
 
-    /// The same macroblock by the Rust's `decode_block` and by the second reader.
+    /// The same macroblock by the Rust's `decode_block` and by the second reader, whose state goes on.
     fn others(
         &mut self,
         y2: u8,
@@ -173,6 +169,7 @@ impl<'a> Reading<'a> {
         tallies.reader.count(second == right, || format!("y2 {y2} {}", self.told()));
         if read {
             self.second = bools;
+            self.state = self.second.state();
         }
     }
 }
@@ -265,7 +262,7 @@ impl Call {
 
     fn count(&self, tally: &mut Tally) {
         let mut state = [7; 16];
-        library::bool_start(&self.bytes, &mut state[..4]);
+        state[..4].copy_from_slice(&Bools::new(&self.bytes).state());
         let held = &state[..self.state];
         let (mut a, mut l) = (Lent::new(0x5A, &self.above), Lent::new(0xA5, &self.left));
         let (mut s, mut c) = (Lent::new(!0, held), Lent::new(0x5AA5, &vec![0x7E7E; self.coeffs]));
@@ -364,52 +361,52 @@ fn lengths(r: &mut Random, run: &mut Run) {
         for n in 0..9 {
             let mut state = Lent::new(!0, &vec![5; n]);
             let reply = library::bool_start(&bytes, state.slice());
-            let kept = n == 4 || state.holds(&vec![5; n]);
-            tally.count(reply == u32::from(n != 4) && kept, || format!("bool_start {length} bytes, state of {n}"));
+            let right = if n == 4 { Bools::new(&bytes).state().to_vec() } else { vec![5; n] };
+            let equal = reply == u32::from(n != 4) && state.holds(&right);
+            tally.count(equal, || format!("bool_start {length} bytes, state of {n}"));
         }
     }
     tally.end(run);
 }
 
-/// States that are no partition's own. One that no start and no read leaves answers 9 and is left as it came; another may
-/// be read from. In either case nothing is written outside the slices, the same call again has the same answer, and what is
-/// read keeps its bounds.
+/// States of any numbers, against the second reader: one that no start and no read leaves answers 9, from another the next
+/// macroblock is read.
 fn states(r: &mut Random, run: &mut Run) {
     let mut tally = Tally::new("tokens.states");
     for _ in 0..run.cases(200_000) {
-        let length = r.below(200);
-        let bytes = partition(r, 0, length);
+        let (kind, length) = (r.below(PARTITIONS), r.below(200));
+        let bytes = partition(r, kind, length);
         let table = r.below(TABLES);
         let probabilities = probabilities(r, table);
-        let mut state = [0; 4];
-        library::bool_start(&bytes, &mut state);
-        for _ in 0..=r.below(2) {
+        let mut bools = Bools::new(&bytes);
+        for _ in 0..r.below(8) {
+            bools.literal(r.below(9) as u32);
+        }
+        let mut state = bools.state();
+        for _ in 0..r.below(3) {
             let place = r.below(4);
-            state[place] = match r.below(5) {
+            state[place] = match r.below(6) {
                 0 => r.bits(),
                 1 => r.bits() >> r.below(64),
                 2 => state[place].wrapping_add(r.bits() % 17).wrapping_sub(8),
                 3 => r.of(&[0, 1, 127, 128, 255, 256, 1 << 32, !0]),
+                4 => state[place].wrapping_add(256 * r.bits()),
                 _ => state[place] ^ 1 << r.below(64),
             };
         }
         let (above, left, y2) = (flags(r), flags(r), r.below(2) as u8);
-        let once = || {
-            let (mut a, mut l) = (Lent::new(0x5A, &above), Lent::new(0xA5, &left));
-            let (mut s, mut c) = (Lent::new(!0, &state), Lent::new(0x5AA5, &[0x7E7E; 400]));
-            let reply = library::tokens(&bytes, &probabilities, y2, a.slice(), l.slice(), s.slice(), c.slice());
-            let kept = match reply {
-                9 => a.holds(&above) && l.holds(&left) && s.holds(&state) && c.holds(&[0; 400]),
-                _ => {
-                    let within = c.slice().iter().all(|x| (-2114..=2114).contains(x));
-                    let flags = a.slice().iter().chain(l.slice().iter()).all(|&flag| flag < 2);
-                    reply == 0 && within && flags
-                }
-            };
-            (kept, reply, a.cells, l.cells, s.cells, c.cells)
-        };
-        let (first, again) = (once(), once());
-        tally.count(first.0 && first == again, || format!("reply {} of state {state:?}", first.1));
+        let (mut a, mut l) = (Lent::new(0x5A, &above), Lent::new(0xA5, &left));
+        let (mut s, mut c) = (Lent::new(!0, &state), Lent::new(0x5AA5, &[0x7E7E; 400]));
+        let reply = library::tokens(&bytes, &probabilities, y2, a.slice(), l.slice(), s.slice(), c.slice());
+        let read = Bools::resume(&bytes, state).and_then(|mut bools| {
+            let (mut above, mut left) = (above.map(|flag| flag == 1), left.map(|flag| flag == 1));
+            let read =
+                reader::tokens::macroblock(&mut bools, &probabilities, y2 == 1, Rule::Values, &mut above, &mut left);
+            (!bools.past).then(|| (0, above.map(u8::from), left.map(u8::from), bools.state(), read.coeffs))
+        });
+        let right = read.unwrap_or((expected::PAST_END, above, left, state, [0; 400]));
+        let equal = reply == right.0 && a.holds(&right.1) && l.holds(&right.2) && s.holds(&right.3) && c.holds(&right.4);
+        tally.count(equal, || format!("replies {reply} {} to state {state:?} of {length} bytes", right.0));
     }
     tally.end(run);
 }

@@ -1,6 +1,10 @@
 //! The bool decoder as the listing of RFC 6386, 7.3, has it: two bytes of value, a shift at a time, a byte after each
 //! eighth shift.
 
+/// The value's two bytes: what is shifted above them is lost. That happens only where the partition begins with 255, which
+/// no encoder writes: the value is then not below its range.
+const TWO_BYTES: u32 = 0xFFFF;
+
 #[derive(Clone)]
 pub struct Bools<'a> {
     partition: &'a [u8],
@@ -8,20 +12,40 @@ pub struct Bools<'a> {
     value: u32,
     range: u32,
     shifts: u32,
-    /// The value lies above its range. It does so for good where the partition begins with 255, which no encoder writes;
-    /// the value then grows without bound and every bool is 1.
-    outgrown: bool,
     /// A byte past the partition's end was loaded, as 0.
     pub past: bool,
 }
 
 impl<'a> Bools<'a> {
     pub fn new(partition: &'a [u8]) -> Bools<'a> {
-        let outgrown = partition.first() == Some(&255);
-        let mut bools = Bools { partition, at: 0, value: 0, range: 255, shifts: 0, outgrown, past: false };
+        let mut bools = Bools { partition, at: 0, value: 0, range: 255, shifts: 0, past: false };
         bools.value = 256 * bools.byte();
         bools.value += bools.byte();
         bools
+    }
+
+    /// The place of the next byte, the range, the value and the shifts since a byte was loaded: the state of
+    /// `zopredil_tokens`.
+    pub fn state(&self) -> [u64; 4] {
+        [self.at as u64, self.range.into(), self.value.into(), self.shifts.into()]
+    }
+
+    /// The decoder of a state, or nothing where no start and no read of this partition leaves such a one: the place lies in
+    /// the partition, two bytes on at least; the range has its upper bit; at most seven bits were shifted; and of the value
+    /// the lower byte is what those shifts leave of the last byte loaded, the upper one below the range, unless the
+    /// partition begins with 255.
+    pub fn resume(partition: &'a [u8], state: [u64; 4]) -> Option<Bools<'a>> {
+        let [at, range, value, shifts] = state;
+        let inside = at >= 2 && at <= partition.len() as u64;
+        if !inside || !(128..256).contains(&range) || shifts > 7 || value > TWO_BYTES.into() {
+            return None;
+        }
+        let at = at as usize;
+        let low = u64::from(partition[at - 1]) << shifts & 255;
+        if value & 255 != low || (partition[0] != 255 && value >> 8 >= range) {
+            return None;
+        }
+        Some(Bools { partition, at, value: value as u32, range: range as u32, shifts: shifts as u32, past: false })
     }
 
     fn byte(&mut self) -> u32 {
@@ -34,15 +58,15 @@ impl<'a> Bools<'a> {
     /// A bool whose probability of being 0 is `prob` / 256.
     pub fn bool(&mut self, prob: u8) -> bool {
         let split = 1 + (((self.range - 1) * u32::from(prob)) >> 8);
-        let bit = self.outgrown || self.value >= split << 8;
+        let bit = self.value >= split << 8;
         if bit {
             self.range -= split;
-            self.value = self.value.wrapping_sub(split << 8);
+            self.value -= split << 8;
         } else {
             self.range = split;
         }
         while self.range < 128 {
-            self.value <<= 1;
+            self.value = self.value << 1 & TWO_BYTES;
             self.range <<= 1;
             self.shifts += 1;
             if self.shifts == 8 {

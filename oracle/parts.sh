@@ -79,3 +79,16 @@ build_bench() {
     build_library target/bench
     build_program target/bench bench bench/src/main.rs judge vp8 zopredil
 }
+
+# instructions NAME FUNCTION PROGRAM WORD..: what the program takes in the function for each of the things that it says it
+# did, by valgrind's callgrind, whose own account stands in target/bench.
+instructions() {
+    command -v valgrind >/dev/null || { echo "there is no valgrind on the PATH" >&2; exit 2; }
+    profile=target/bench/callgrind.$1 function=$2
+    shift 2
+    rm -f "$profile"
+    did=$(valgrind --tool=callgrind --toggle-collect="$function" --callgrind-out-file="$profile" "$@" \
+        2>"$profile.log") || { cat "$profile.log" >&2; exit 1; }
+    total=$(sed -n 's/^totals: //p' "$profile")
+    echo $((total / did))
+}

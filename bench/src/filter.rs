@@ -22,8 +22,15 @@ use zopredil::{still_alone, PlanesMut, Still};
 extern "C" {
     #[rustfmt::skip]
     fn webp_decode(
-        file: *const u8, file_len: usize, without_filter: i32,
-        y: *mut u8, y_len: usize, u: *mut u8, u_len: usize, v: *mut u8, v_len: usize,
+        file: *const u8,
+        file_len: usize,
+        without_filter: i32,
+        y: *mut u8,
+        y_len: usize,
+        u: *mut u8,
+        u_len: usize,
+        v: *mut u8,
+        v_len: usize,
     ) -> i32;
 }
 

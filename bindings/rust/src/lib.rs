@@ -1,5 +1,5 @@
-//! The picture code of VP8 key frames (RFC 6386, sections 12 and 14): safe functions over `libzopredil.a`, whose code
-//! is proved against the RFC.
+//! The picture code of VP8 key frames (RFC 6386, sections 7 and 12 to 15): safe functions over `libzopredil.a`, whose
+//! code is proved against the RFC.
 //!
 //! A macroblock without neighbours, skipped, in DC mode is grey:
 //!
@@ -19,6 +19,9 @@
 //! [`right_pixels`] gives at the picture's right end, and [`macroblock`] draws it. The steps between are here too:
 //! [`dequantise`], [`y1_factors`] and [`dequant_block`] (14.1), [`inverse_wht`] (14.3), [`inverse_dct`] (14.4),
 //! [`add_residue`] (14.5), [`predict_y16x16`], [`predict_uv8x8`] and [`predict_b4x4`] (12.2 and 12.3).
+//!
+//! Before them stands a [`Partition`], which hands out the coefficients of stored macroblocks (7 and 13); after them
+//! [`filter`] and [`filter_levels`], the loop filter over a finished picture (15).
 //!
 //! The calls that draw, and [`inverse_dct_add_into`], also say how many sums of prediction and residue were below 0 or
 //! above 255 before they were clamped.

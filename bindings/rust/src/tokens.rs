@@ -52,13 +52,15 @@ impl Contexts {
 /// ```
 /// use zopredil::{Contexts, Partition, Reply};
 ///
-/// let bytes = [BYTES];
-/// let mut partition = Partition::new(&bytes);
+/// // a macroblock at even chances throughout: 3 and -1 in the Y2 block, 2 in the first of U
+/// let mut partition = Partition::new(&[232, 204, 192, 10, 234, 0, 0]);
 /// let (mut above, mut left) = (Contexts::default(), Contexts::default());
 /// let coeffs = partition.macroblock(&[128; 1056], true, &mut above, &mut left)?;
-/// FIRST
+/// assert_eq!((coeffs[0], coeffs[1], coeffs[16 + 256 + 1]), (3, -1, 2));
+/// assert_eq!(coeffs.iter().filter(|&&x| x != 0).count(), 3);
+/// assert_eq!(above, Contexts { u: [true, false], y2: true, ..Contexts::default() });
 ///
-/// // the next macroblock would need bytes past the partition's end
+/// // that was all of it
 /// let refused = partition.macroblock(&[128; 1056], true, &mut above, &mut left);
 /// assert_eq!(refused, Err(Reply::PastEnd));
 /// # Ok::<(), Reply>(())

@@ -159,8 +159,7 @@ impl<'a> Reading<'a> {
         let right = read.then(|| (*answer.0, flags(answer.1), flags(answer.2)));
         let (mut above, mut left) = (flags(&before.0), flags(&before.1));
         let mut place = start;
-        let walked =
-            place.as_mut().and_then(|at| expected::by_blocks(at, self.probabilities, y2 == 1, above, left));
+        let walked = place.as_mut().and_then(|at| expected::by_blocks(at, self.probabilities, y2 == 1, above, left));
         tallies.blocks.count(walked == right, || format!("y2 {y2} {}", self.told()));
         let mut bools = self.second.clone();
         let second =
@@ -266,15 +265,8 @@ impl Call {
         let held = &state[..self.state];
         let (mut a, mut l) = (Lent::new(0x5A, &self.above), Lent::new(0xA5, &self.left));
         let (mut s, mut c) = (Lent::new(!0, held), Lent::new(0x5AA5, &vec![0x7E7E; self.coeffs]));
-        let reply = library::tokens(
-            &self.bytes,
-            &self.probabilities,
-            self.y2,
-            a.slice(),
-            l.slice(),
-            s.slice(),
-            c.slice(),
-        );
+        let reply =
+            library::tokens(&self.bytes, &self.probabilities, self.y2, a.slice(), l.slice(), s.slice(), c.slice());
         let (mut above, mut left, mut coeffs) = (self.above.clone(), self.left.clone(), vec![0x7E7E; self.coeffs]);
         let mut place = expected::start(&self.bytes);
         let place = (self.state == 4).then_some(&mut place);
@@ -405,7 +397,8 @@ fn states(r: &mut Random, run: &mut Run) {
             (!bools.past).then(|| (0, above.map(u8::from), left.map(u8::from), bools.state(), read.coeffs))
         });
         let right = read.unwrap_or((expected::PAST_END, above, left, state, [0; 400]));
-        let equal = reply == right.0 && a.holds(&right.1) && l.holds(&right.2) && s.holds(&right.3) && c.holds(&right.4);
+        let equal =
+            reply == right.0 && a.holds(&right.1) && l.holds(&right.2) && s.holds(&right.3) && c.holds(&right.4);
         tally.count(equal, || format!("replies {reply} {} to state {state:?} of {length} bytes", right.0));
     }
     tally.end(run);

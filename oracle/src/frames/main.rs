@@ -179,7 +179,9 @@ impl Case {
     fn compare_picture(&mut self, what: &str, whole: &str, cropped: &str, picture: &mut Picture) -> usize {
         let (width, height) = (self.frame.width, self.frame.height);
         let mut compared = 0;
-        for (right, ours) in [(self.beside(whole), picture.bytes.clone()), (self.beside(cropped), picture.cropped(width, height))] {
+        for (right, ours) in
+            [(self.beside(whole), picture.bytes.clone()), (self.beside(cropped), picture.cropped(width, height))]
+        {
             let Some(right) = right else { continue };
             compared += 1;
             let length = usize::from(right.len() != ours.len());
@@ -208,7 +210,10 @@ impl Case {
         }
         compared += self.compare_picture("the filtered picture", "filtered", "after", &mut picture);
         self.compare_picture("the second filter's picture", "filtered", "after", &mut second);
-        self.differs("pixels of the two filters", picture.bytes.iter().zip(&second.bytes).filter(|(a, b)| a != b).count());
+        self.differs(
+            "pixels of the two filters",
+            picture.bytes.iter().zip(&second.bytes).filter(|(a, b)| a != b).count(),
+        );
         compared
     }
 

@@ -42,15 +42,7 @@ pub fn filter_levels(strength: Strength<'_>, planes: Planes<'_>) -> u32 {
 
 /// The answer of `zopredil_filter`: one level for all.
 #[allow(clippy::too_many_arguments)] // the parameters of the C function
-pub fn filter(
-    cols: usize,
-    rows: usize,
-    kind: u8,
-    level: u8,
-    sharpness: u8,
-    inner: &[u8],
-    planes: Planes<'_>,
-) -> u32 {
+pub fn filter(cols: usize, rows: usize, kind: u8, level: u8, sharpness: u8, inner: &[u8], planes: Planes<'_>) -> u32 {
     let side = 1..=1024;
     let count = if side.contains(&cols) && side.contains(&rows) { cols * rows } else { 0 };
     let levels = vec![level; count];

@@ -88,9 +88,7 @@ impl Across<'_> {
     }
 
     fn smooth(&self, interior: i32) -> bool {
-        (0..3).all(|k| {
-            (self.p(k + 1) - self.p(k)).abs() <= interior && (self.q(k + 1) - self.q(k)).abs() <= interior
-        })
+        (0..3).all(|k| (self.p(k + 1) - self.p(k)).abs() <= interior && (self.q(k + 1) - self.q(k)).abs() <= interior)
     }
 
     fn high_variance(&self, threshold: i32) -> bool {

@@ -34,7 +34,7 @@ pub enum FilterKind {
 /// let (mut u, mut v) = ([128; 128], [128; 128]);
 /// let planes = PlanesMut { y: &mut y, u: &mut u, v: &mut v };
 /// filter(2, 1, FilterKind::Normal, 20, 0, &[0, 0], planes)?;
-/// assert_eq!(y[11..21], [120, 120, 119, 117, 115, 117, 115, 113, 112, 112]);
+/// assert_eq!(y[11..21], [120, 120, 119, 118, 117, 115, 114, 113, 112, 112]);
 ///
 /// let planes = PlanesMut { y: &mut y, u: &mut u, v: &mut v };
 /// assert_eq!(filter(2, 1, FilterKind::Simple, 64, 0, &[0, 0], planes), Err(Reply::LevelOrSharpness));

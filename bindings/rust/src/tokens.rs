@@ -58,7 +58,7 @@ impl Contexts {
 /// let coeffs = partition.macroblock(&[128; 1056], true, &mut above, &mut left)?;
 /// assert_eq!((coeffs[0], coeffs[1], coeffs[16 + 256 + 1]), (3, -1, 2));
 /// assert_eq!(coeffs.iter().filter(|&&x| x != 0).count(), 3);
-/// assert_eq!(above, Contexts { u: [true, false], y2: true, ..Contexts::default() });
+/// assert_eq!(above, Contexts { y2: true, ..Contexts::default() });
 ///
 /// // that was all of it
 /// let refused = partition.macroblock(&[128; 1056], true, &mut above, &mut left);

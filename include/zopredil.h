@@ -18,6 +18,11 @@
  *     7  the picture's size or the macroblock's place is outside its limits
  *     8  a byte is no mode's number, or a skip or mark byte is neither 0 nor 1
  *
+ * Of the slices that are written, plane and the y, u and v of a still are planes, which hold a picture: a refusal
+ * leaves them as they were, but for the finished macroblocks of a still. coeffs is dequantised where it stands, and a
+ * refusal leaves it as it was. All others (out, factors, record, replies, clipped) hold an answer alone, and each
+ * function says what a refusal leaves in them: zeros, the count of what is finished, or what was there.
+ *
  * The numbers of the modes, in the order of RFC 6386, section 8:
  *
  *     luma       0 DC   1 V    2 H    3 TM   4 B
@@ -59,6 +64,9 @@
 
 #include <stddef.h>
 #include <stdint.h>
+
+/* The version of the library that this header belongs to. */
+#define ZOPREDIL_VERSION "0.9.0"
 
 #ifdef __cplusplus
 extern "C" {

@@ -12,8 +12,9 @@
 mod clock;
 
 use clock::{median, timed};
+use judge::blocks::Blocks;
 use judge::data;
-use judge::expected::{self, Blocks};
+use judge::expected;
 use judge::random::Random;
 use std::hint::black_box;
 use std::process::ExitCode;
@@ -200,6 +201,7 @@ fn equal(rust: &[ReconstructedMb], library: &[[u8; 384]]) -> bool {
 
 fn bench(turns: usize) -> Result<(), String> {
     println!("{COUNT} macroblocks of a kind, medians of {turns} turns, processor time");
+    println!("a ratio is the Rust's time divided by the library's: above 1 the library is faster");
     for kind in KINDS {
         let given = macroblocks(kind).ok_or("an unknown kind")?;
         let taken: Vec<Taken> = given.iter().map(Taken::of).collect();

@@ -1,17 +1,10 @@
-//! The still file. Numbers are low byte first, n is columns times rows, each list is in raster order of the macroblocks:
-//!
-//!     ZSTILL1\n                       8 bytes
-//!     width, height                   4 bytes each, in pixels
-//!     columns, rows                   4 bytes each, in macroblocks of 16 by 16 pixels
-//!     modes                           3 n bytes: luma, chroma, skip
-//!     sub-block modes                 16 n bytes
-//!     coefficients                    400 n numbers of 2 bytes, signed
-//!
-//! A side is 1 to 1,024 macroblocks, and has no macroblock that lies outside the picture whole.
+//! The still file, as docs/STILL-FILE.md describes it: `ZSTILL1\n`, four sizes, and for n macroblocks in raster order
+//! 3 n bytes of modes, 16 n of sub-block modes and 400 n coefficients.
 
 use crate::progress::Progress;
 use std::fmt;
 use std::io::{self, ErrorKind, Read};
+use zopredil::{ModeByte, Still};
 
 pub const MAGIC: &[u8; 8] = b"ZSTILL1\n";
 
@@ -37,6 +30,14 @@ pub struct StillFile {
     pub modes: Vec<u8>,
     pub sub_modes: Vec<u8>,
     pub coeffs: Vec<i16>,
+}
+
+impl StillFile {
+    /// The still as the library takes it.
+    pub fn lent(&self) -> Still<'_> {
+        let (cols, rows) = (self.sizes.cols as usize, self.sizes.rows as usize);
+        Still { cols, rows, modes: &self.modes, sub_modes: &self.sub_modes, coeffs: &self.coeffs }
+    }
 }
 
 /// Why a file is no still.
@@ -84,6 +85,17 @@ impl Sizes {
     /// Bytes of the whole file.
     fn length(&self) -> u64 {
         HEAD + MACROBLOCK * self.count() as u64
+    }
+
+    /// Where a byte of a macroblock stands in the file, counted from 0.
+    pub fn place(&self, macroblock: usize, byte: ModeByte) -> u64 {
+        let (index, modes) = (macroblock as u64, HEAD + 3 * macroblock as u64);
+        match byte {
+            ModeByte::Luma => modes,
+            ModeByte::Chroma => modes + 1,
+            ModeByte::Skip => modes + 2,
+            ModeByte::SubBlock(k) => HEAD + 3 * self.count() as u64 + 16 * index + k as u64,
+        }
     }
 
     fn bytes_wanted(&self) -> String {
@@ -188,7 +200,7 @@ mod tests {
 
     fn read_slice(mut file: &[u8], known: bool) -> Result<StillFile, BadStill> {
         let length = known.then_some(file.len() as u64);
-        read(&mut file, length, &mut Progress::silent())
+        read(&mut file, length, &mut Progress::on(None))
     }
 
     fn refused(file: &[u8]) -> String {
@@ -283,7 +295,7 @@ mod tests {
         for length in [0, 8, 24, 30, 62, 1662] {
             let whole = file([20, 16, 2, 1]);
             let mut from = whole[..length].chain(Broken);
-            let why = read(&mut from, None, &mut Progress::silent()).unwrap_err();
+            let why = read(&mut from, None, &mut Progress::on(None)).unwrap_err();
             assert_eq!(why.to_string(), "the disk is gone");
         }
     }

@@ -5,76 +5,11 @@
 mod deflate;
 #[path = "../src/png.rs"]
 mod png;
+mod shared;
 
+use shared::{drawn, folder, refused, Tones};
 use std::fs;
-use std::path::{Path, PathBuf};
-use std::process::{Command, Output, Stdio};
-
-/// A folder of a test's own.
-fn folder(name: &str) -> PathBuf {
-    let folder = Path::new(env!("CARGO_TARGET_TMPDIR")).join(name);
-    let _ = fs::remove_dir_all(&folder);
-    fs::create_dir_all(&folder).unwrap();
-    folder
-}
-
-fn run(folder: &Path, words: &[&str]) -> Output {
-    Command::new(env!("CARGO_BIN_EXE_zopredil")).args(words).current_dir(folder).output().unwrap()
-}
-
-/// The program draws, and says so.
-fn drawn(folder: &Path, words: &[&str]) -> String {
-    let ran = run(folder, words);
-    assert_eq!(String::from_utf8_lossy(&ran.stderr), "");
-    assert_eq!(ran.status.code(), Some(0));
-    String::from_utf8(ran.stdout).unwrap()
-}
-
-/// The program refuses, with this status, nothing on standard output and one line on standard error, which is returned.
-fn refused(folder: &Path, words: &[&str], status: i32) -> String {
-    let ran = run(folder, words);
-    let line = String::from_utf8(ran.stderr).unwrap();
-    assert_eq!((ran.status.code(), ran.stdout.len()), (Some(status), 0), "{line}");
-    assert!(line.starts_with("zopredil: ") && line.ends_with('\n') && line.lines().count() == 1, "{line}");
-    line
-}
-
-/// A still whose macroblocks are in DC and get a tone of their own from the first Y2, U and V coefficients.
-struct Tones {
-    sizes: [u32; 4],
-    modes: Vec<u8>,
-    sub_modes: Vec<u8>,
-    coeffs: Vec<i16>,
-}
-
-impl Tones {
-    fn new(width: u32, height: u32) -> Tones {
-        let (cols, rows) = (width.div_ceil(16), height.div_ceil(16));
-        let count = (cols * rows) as usize;
-        let mut coeffs = vec![0; 400 * count];
-        for (k, c) in coeffs.chunks_mut(400).enumerate() {
-            c[0] = 64 * (k % 3) as i16; // 1 level a step
-            for block in 0..4 {
-                c[272 + 16 * block] = 8 * (k % 5) as i16;
-                c[336 + 16 * block] = -8 * (k % 7) as i16;
-            }
-        }
-        Tones { sizes: [width, height, cols, rows], modes: vec![0; 3 * count], sub_modes: vec![0; 16 * count], coeffs }
-    }
-
-    fn bytes(&self) -> Vec<u8> {
-        let mut file = b"ZSTILL1\n".to_vec();
-        file.extend(self.sizes.iter().flat_map(|size| size.to_le_bytes()));
-        file.extend(&self.modes);
-        file.extend(&self.sub_modes);
-        file.extend(self.coeffs.iter().flat_map(|c| c.to_le_bytes()));
-        file
-    }
-
-    fn save(&self, folder: &Path) {
-        fs::write(folder.join("a.still"), self.bytes()).unwrap();
-    }
-}
+use std::path::Path;
 
 /// The pixels of a .pgm file: width, height, rows.
 fn read_pgm(file: &Path) -> (u32, u32, Vec<Vec<u8>>) {
@@ -163,14 +98,20 @@ fn clipped_pixels_are_counted_and_marked() {
     still.coeffs[800] = 64 * 255; // Y in the third at 255, which is not past it
     still.save(&folder);
     let said = drawn(&folder, &["draw", "a.still", "-o", "grey.png", "--mark-clipped"]);
-    assert_eq!(said, "drew 40x16 (3x1 macroblocks), reply 0: grey.png\nclipped pixels: 272\n");
+    assert_eq!(
+        said,
+        "drew 40x16 (3x1 macroblocks), reply 0: grey.png\nclipped pixels: 272, of which 256 show in grey\n"
+    );
     let grey = |x: usize| [if x < 32 { 0 } else { 255 }; 3];
     for row in read_rgb(&folder.join("grey.png")) {
         assert_eq!(row, (0..40).map(|x| if x < 16 { MAGENTA } else { grey(x) }).collect::<Vec<_>>());
     }
     drawn(&folder, &["draw", "a.still", "-o", "plain.png", "--color"]);
     let said = drawn(&folder, &["draw", "a.still", "-o", "color.png", "--color", "--mark-clipped", "--crop", "30x16"]);
-    assert_eq!(said, "drew 30x16 (3x1 macroblocks), reply 0: color.png\nclipped pixels: 272\n");
+    assert_eq!(
+        said,
+        "drew 30x16 (3x1 macroblocks), reply 0: color.png\nclipped pixels: 272, of which 268 show in colour\n"
+    );
     let plain = read_rgb(&folder.join("plain.png"));
     for (row, pixels) in read_rgb(&folder.join("color.png")).into_iter().enumerate() {
         let marked = |x: usize| x < 16 || x >= 24 && row < 8;
@@ -198,7 +139,7 @@ fn the_clipped_onset_of_the_studio() {
     let folder = folder("studio");
     let still = Path::new(env!("CARGO_MANIFEST_DIR")).join("../examples/studio.still");
     let said = drawn(&folder, &["draw", still.to_str().unwrap(), "-o", "a.png", "--mark-clipped"]);
-    let count: usize = said.trim_end().rsplit_once(": ").unwrap().1.parse().unwrap();
+    assert!(said.ends_with("\nclipped pixels: 959, of which 893 show in grey\n"), "{said}");
     let (_, _, _, plain) = png::tests::read_back(&fs::read(still.with_extension("png")).unwrap());
     let mut marked = 0;
     for (pixels, levels) in read_rgb(&folder.join("a.png")).iter().zip(&plain) {
@@ -211,7 +152,7 @@ fn the_clipped_onset_of_the_studio() {
             }
         }
     }
-    assert!(marked > 100 && marked <= count, "{marked} of {count}");
+    assert_eq!(marked, 893);
 }
 
 #[test]
@@ -226,25 +167,36 @@ fn the_included_rooms_are_as_pictured() {
 }
 
 #[test]
-fn a_damaged_still_is_named_by_its_macroblock() {
+fn a_damaged_still_is_named_by_its_byte() {
     let folder = folder("damaged");
     fs::write(folder.join("a.png"), "an older picture").unwrap();
+    let refuse = |still: &Tones, index: usize, byte: &str, at: usize| {
+        still.save(&folder);
+        let line = refused(&folder, &["draw", "a.still", "-o", "a.png"], 1);
+        let place = format!("macroblock {index} (column {}, row {})", index % 3, index / 3);
+        assert_eq!(line, format!("zopredil: a.still: {place}: reply 8, {byte} known (byte {at} of the file)\n"));
+    };
     for index in 0..6 {
-        for (part, byte) in [(0, 5), (1, 4), (2, 2), (0, 255)] {
+        for (part, byte, says) in [
+            (0, 5, "its luma mode is 5, and 0 to 4 are"),
+            (1, 4, "its chroma mode is 4, and 0 to 3 are"),
+            (2, 2, "its skip byte is 2, and 0 and 1 are"),
+            (0, 255, "its luma mode is 255, and 0 to 4 are"),
+        ] {
             let mut still = Tones::new(48, 32);
             still.modes[3 * index + part] = byte;
-            still.save(&folder);
-            let line = refused(&folder, &["draw", "a.still", "-o", "a.png"], 1);
-            let place = format!("macroblock {index} (column {}, row {}): reply 8", index % 3, index / 3);
-            assert!(line.contains(&place), "{line}");
+            refuse(&still, index, says, 24 + 3 * index + part);
         }
         let mut still = Tones::new(48, 32);
-        still.sub_modes[16 * index] = 10;
+        still.sub_modes[16 * index + 2] = 10;
         still.save(&folder);
         drawn(&folder, &["draw", "a.still", "-o", "b.png"]); // not looked at
         still.modes[3 * index] = 4;
-        still.save(&folder);
-        refused(&folder, &["draw", "a.still", "-o", "a.png"], 1);
+        let says = "the mode of its sub-block 2 is 10, and 0 to 9 are";
+        refuse(&still, index, says, 24 + 18 + 16 * index + 2);
+        // the first of several, in the order luma, chroma, skip, sub-blocks
+        still.modes[3 * index + 1] = 9;
+        refuse(&still, index, "its chroma mode is 9, and 0 to 3 are", 24 + 3 * index + 1);
     }
     assert_eq!(fs::read(folder.join("a.png")).unwrap(), b"an older picture");
 }
@@ -290,17 +242,6 @@ fn a_large_size_alone_takes_no_room() {
 }
 
 #[test]
-fn files_that_are_not_there() {
-    let folder = folder("missing");
-    refused(&folder, &["draw", "a.still", "-o", "a.png"], 1);
-    refused(&folder, &["draw", ".", "-o", "a.png"], 1);
-    Tones::new(16, 16).save(&folder);
-    refused(&folder, &["draw", "a.still", "-o", "no/such/folder/a.png"], 1);
-    fs::create_dir(folder.join("b.png")).unwrap();
-    refused(&folder, &["draw", "a.still", "-o", "b.png"], 1);
-}
-
-#[test]
 fn wrong_words() {
     let folder = folder("words");
     Tones::new(16, 16).save(&folder);
@@ -315,39 +256,25 @@ fn wrong_words() {
 }
 
 #[test]
-fn a_large_still_has_a_progress_line() {
+fn a_large_still_says_no_more_than_a_small_one() {
     let folder = folder("large");
-    Tones::new(64 * 16, 64 * 16).save(&folder);
-    let ran = run(&folder, &["draw", "a.still", "-o", "a.png"]);
-    assert_eq!(ran.status.code(), Some(0));
-    let line = "zopredil: 4096 macroblocks: reading 25% 50% 75% 100%, drawing, writing 25% 50% 75% 100%\n";
-    assert_eq!(String::from_utf8_lossy(&ran.stderr), line);
-    let ran = run(&folder, &["draw", "a.still", "-o", "a.png", "--mark-clipped"]);
-    let line = line.replace("drawing, ", "drawing, marking, ");
-    assert_eq!((ran.status.code(), String::from_utf8_lossy(&ran.stderr).into_owned()), (Some(0), line));
+    let mut still = Tones::new(64 * 16, 64 * 16);
+    still.save(&folder);
+    drawn(&folder, &["draw", "a.still", "-o", "a.png"]);
+    // refused at its end, when all else of it is read and drawn
+    still.modes[3 * 4095 + 2] = 7;
+    still.save(&folder);
+    let line = refused(&folder, &["draw", "a.still", "-o", "b.png"], 1);
+    assert!(line.contains("macroblock 4095 (column 63, row 63): reply 8, its skip byte is 7"), "{line}");
+    refused(&folder, &["draw", "a.still", "-o", "no/such/folder/b.png"], 1);
 }
 
-#[cfg(target_os = "linux")]
 #[test]
-fn places_that_take_nothing() {
-    use std::ffi::OsStr;
-    use std::os::unix::ffi::OsStrExt;
-    let folder = folder("full");
-    Tones::new(160, 160).save(&folder);
-    std::os::unix::fs::symlink("/dev/full", folder.join("full.png")).unwrap();
-    refused(&folder, &["draw", "a.still", "-o", "full.png"], 1);
-    std::os::unix::fs::symlink("/dev/full", folder.join("full.pgm")).unwrap();
-    refused(&folder, &["draw", "a.still", "-o", "full.pgm"], 1);
-    // a still from a pipe, and standard output that is full
-    let full = || Stdio::from(fs::OpenOptions::new().write(true).open("/dev/full").unwrap());
-    let mut program = Command::new(env!("CARGO_BIN_EXE_zopredil"));
-    program.args(["draw", "/dev/stdin", "-o", "a.png"]).current_dir(&folder);
-    let still = || Stdio::from(fs::File::open(folder.join("a.still")).unwrap());
-    assert_eq!(program.stdin(still()).stdout(full()).stderr(full()).status().unwrap().code(), Some(1));
-    assert_eq!(program.stdin(still()).stdout(Stdio::null()).status().unwrap().code(), Some(0));
-    // words that are no text
-    let word: &OsStr = OsStrExt::from_bytes(b"\xFF.still");
-    let words = [OsStr::new("draw"), word, OsStr::new("-o"), OsStr::new("b.png")];
-    let ran = Command::new(env!("CARGO_BIN_EXE_zopredil")).args(words).output().unwrap();
-    assert_eq!(ran.status.code(), Some(1));
+fn the_version_and_the_help() {
+    let folder = folder("asked");
+    let header = fs::read_to_string(Path::new(env!("CARGO_MANIFEST_DIR")).join("../include/zopredil.h")).unwrap();
+    let version = drawn(&folder, &["--version"]);
+    let number = version.strip_prefix("zopredil ").unwrap().trim_end();
+    assert!(header.contains(&format!("\n#define ZOPREDIL_VERSION \"{number}\"\n")), "{version}");
+    assert_eq!(drawn(&folder, &["draw", "--help"]), drawn(&folder, &["--help"]));
 }

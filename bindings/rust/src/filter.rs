@@ -1,6 +1,6 @@
 //! The loop filter over a finished picture.
 
-use crate::raw;
+use crate::call::call;
 use crate::reply::answer;
 use crate::{PlanesMut, Reply};
 
@@ -49,24 +49,8 @@ pub fn filter(
     inner: &[u8],
     planes: PlanesMut<'_>,
 ) -> Result<(), Reply> {
-    // SAFETY: the pointers and the lengths are those of slices, and the planes, which are written, are lent alone.
-    answer(unsafe {
-        raw::zopredil_filter(
-            cols,
-            rows,
-            kind as u8,
-            level,
-            sharpness,
-            inner.as_ptr(),
-            inner.len(),
-            planes.y.as_mut_ptr(),
-            planes.y.len(),
-            planes.u.as_mut_ptr(),
-            planes.u.len(),
-            planes.v.as_mut_ptr(),
-            planes.v.len(),
-        )
-    })
+    let PlanesMut { y, u, v } = planes;
+    answer(call!(zopredil_filter(cols, rows, kind as u8, level, sharpness, in inner, out y, out u, out v)))
 }
 
 /// The same with a level for each macroblock, 0 where its own edges are not filtered: frames have more than one where
@@ -93,23 +77,8 @@ pub fn filter_levels(
     inner: &[u8],
     planes: PlanesMut<'_>,
 ) -> Result<(), Reply> {
-    // SAFETY: the pointers and the lengths are those of slices, and the planes, which are written, are lent alone.
-    answer(unsafe {
-        raw::zopredil_filter_levels(
-            cols,
-            rows,
-            kind as u8,
-            sharpness,
-            levels.as_ptr(),
-            levels.len(),
-            inner.as_ptr(),
-            inner.len(),
-            planes.y.as_mut_ptr(),
-            planes.y.len(),
-            planes.u.as_mut_ptr(),
-            planes.u.len(),
-            planes.v.as_mut_ptr(),
-            planes.v.len(),
-        )
-    })
+    let PlanesMut { y, u, v } = planes;
+    answer(call!(zopredil_filter_levels(
+        cols, rows, kind as u8, sharpness, in levels, in inner, out y, out u, out v
+    )))
 }

@@ -1,6 +1,6 @@
 //! Whole macroblocks: drawing one (RFC 6386, 14.2 and 12.3) and gathering its neighbours from a picture.
 
-use crate::raw;
+use crate::call::call;
 use crate::reply::answer;
 use crate::{IntraBmode, MbModes, Neighbors, Reply};
 
@@ -43,23 +43,7 @@ pub fn macroblock(
     let sub_modes = sub_modes.as_ref().map_or(&[][..], |modes| &modes[..]);
     let record = neighbors.to_bytes();
     let (mut out, mut clipped) = ([0; 384], [0]);
-    // SAFETY: the pointers and the lengths are those of arrays; only out and clipped are written.
-    answer(unsafe {
-        raw::zopredil_macroblock(
-            modes.as_ptr(),
-            modes.len(),
-            sub_modes.as_ptr(),
-            sub_modes.len(),
-            record.as_ptr(),
-            record.len(),
-            coeffs.as_ptr(),
-            coeffs.len(),
-            out.as_mut_ptr(),
-            out.len(),
-            clipped.as_mut_ptr(),
-            clipped.len(),
-        )
-    })?;
+    answer(call!(zopredil_macroblock(in modes, in sub_modes, in record, in coeffs, out out, out clipped)))?;
     let mut drawn = Macroblock { y: [0; 256], u: [0; 64], v: [0; 64], clipped: clipped[0] };
     drawn.y.copy_from_slice(&out[..256]);
     drawn.u.copy_from_slice(&out[256..320]);
@@ -97,25 +81,7 @@ pub fn gather(
     right: [u8; 4],
 ) -> Result<Neighbors, Reply> {
     let mut record = [0; 81];
-    // SAFETY: the pointers and the lengths are those of the slices and of local arrays, of which record is written.
-    answer(unsafe {
-        raw::zopredil_gather(
-            y.as_ptr(),
-            y.len(),
-            u.as_ptr(),
-            u.len(),
-            v.as_ptr(),
-            v.len(),
-            cols,
-            rows,
-            col,
-            row,
-            right.as_ptr(),
-            right.len(),
-            record.as_mut_ptr(),
-            record.len(),
-        )
-    })?;
+    answer(call!(zopredil_gather(in y, in u, in v, cols, rows, col, row, in right, out record)))?;
     Neighbors::from_bytes(&record)
 }
 
@@ -137,7 +103,6 @@ pub fn gather(
 /// ```
 pub fn right_pixels(y: &[u8], cols: usize, rows: usize, row: usize) -> Result<[u8; 4], Reply> {
     let mut out = [0; 4];
-    // SAFETY: the pointers and the lengths are those of the slice and of a local array, which alone is written.
-    answer(unsafe { raw::zopredil_right_pixels(y.as_ptr(), y.len(), cols, rows, row, out.as_mut_ptr(), out.len()) })?;
+    answer(call!(zopredil_right_pixels(in y, cols, rows, row, out out)))?;
     Ok(out)
 }

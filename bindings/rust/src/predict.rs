@@ -1,13 +1,12 @@
 //! Prediction of pixels from their neighbours (RFC 6386, 12.2 and 12.3).
 
-use crate::raw;
+use crate::call::call;
 use crate::reply::{answer, done};
 use crate::{IntraBmode, IntraUvMode, IntraYMode, Reply};
 
-/// The pointer and the length of an edge: length 0 where it is absent.
-fn edge<const N: usize>(pixels: Option<&[u8; N]>) -> (*const u8, usize) {
-    let pixels = pixels.map_or(&[][..], |pixels| &pixels[..]);
-    (pixels.as_ptr(), pixels.len())
+/// The pixels of an edge: none where it is absent.
+fn edge<const N: usize>(pixels: Option<&[u8; N]>) -> &[u8] {
+    pixels.map_or(&[], |pixels| pixels)
 }
 
 /// Predicts the 16x16 luma pixels of a macroblock (12.3). `None` is an edge outside the picture; `p` is the pixel above
@@ -28,11 +27,7 @@ pub fn predict_y16x16(
     p: u8,
 ) -> Result<[u8; 256], Reply> {
     let mut out = [0; 256];
-    let ((above, above_len), (left, left_len)) = (edge(above), edge(left));
-    // SAFETY: the pointers and the lengths are those of the edges and of a local array.
-    answer(unsafe {
-        raw::zopredil_predict_y16x16(mode as u8, above, above_len, left, left_len, p, out.as_mut_ptr(), out.len())
-    })?;
+    answer(call!(zopredil_predict_y16x16(mode as u8, in edge(above), in edge(left), p, out out)))?;
     Ok(out)
 }
 
@@ -47,11 +42,7 @@ pub fn predict_y16x16(
 /// ```
 pub fn predict_uv8x8(mode: IntraUvMode, above: Option<&[u8; 8]>, left: Option<&[u8; 8]>, p: u8) -> [u8; 64] {
     let mut out = [0; 64];
-    let ((above, above_len), (left, left_len)) = (edge(above), edge(left));
-    // SAFETY: the pointers and the lengths are those of the edges and of a local array.
-    done(unsafe {
-        raw::zopredil_predict_uv8x8(mode as u8, above, above_len, left, left_len, p, out.as_mut_ptr(), out.len())
-    });
+    done(call!(zopredil_predict_uv8x8(mode as u8, in edge(above), in edge(left), p, out out)));
     out
 }
 
@@ -66,18 +57,6 @@ pub fn predict_uv8x8(mode: IntraUvMode, above: Option<&[u8; 8]>, left: Option<&[
 /// ```
 pub fn predict_b4x4(mode: IntraBmode, above: &[u8; 8], left: &[u8; 4], p: u8) -> [u8; 16] {
     let mut out = [0; 16];
-    // SAFETY: the pointers and the lengths are those of the arrays.
-    done(unsafe {
-        raw::zopredil_predict_b4x4(
-            mode as u8,
-            above.as_ptr(),
-            above.len(),
-            left.as_ptr(),
-            left.len(),
-            p,
-            out.as_mut_ptr(),
-            out.len(),
-        )
-    });
+    done(call!(zopredil_predict_b4x4(mode as u8, in above, in left, p, out out)));
     out
 }

@@ -1,6 +1,6 @@
 //! A shelf of loose macroblocks: each drawn by itself, from its own neighbours, with a reply of its own.
 
-use crate::raw;
+use crate::call::call;
 use crate::reply::{answer, done};
 use crate::Reply;
 
@@ -52,7 +52,7 @@ fn item(bytes: &[u8], reply: u8) -> Result<MbPlanes, Reply> {
 
 /// Draws loose macroblocks, each as [`macroblock`](crate::macroblock) does, and no job changes what becomes of another:
 /// one with an unknown mode, skip byte, mark or, in luma mode B, sub-block mode is [`Reply::UnknownByte`] in its own
-/// place and has no clipped sums. The jobs are copied into the lists that [`raw::zopredil_shelf`] takes.
+/// place and has no clipped sums. The jobs are copied into the lists that the C function takes.
 ///
 /// ```
 /// use zopredil::{shelf, Job, Neighbors, Reply};
@@ -79,25 +79,9 @@ pub fn shelf(jobs: &[Job<'_>]) -> Shelf {
     let sub_modes = jobs.iter().map(|job| &job.sub_modes[..]).collect::<Vec<_>>().concat();
     let coeffs = jobs.iter().map(|job| &job.coeffs[..]).collect::<Vec<_>>().concat();
     let (mut out, mut replies, mut clipped) = (vec![0; 384 * jobs.len()], vec![0; jobs.len()], [0]);
-    // SAFETY: the pointers and the lengths are those of lists of this function's own; out, replies and clipped are written.
-    done(unsafe {
-        raw::zopredil_shelf(
-            modes.as_ptr(),
-            modes.len(),
-            records.as_ptr(),
-            records.len(),
-            sub_modes.as_ptr(),
-            sub_modes.len(),
-            coeffs.as_ptr(),
-            coeffs.len(),
-            out.as_mut_ptr(),
-            out.len(),
-            replies.as_mut_ptr(),
-            replies.len(),
-            clipped.as_mut_ptr(),
-            clipped.len(),
-        )
-    });
+    done(call!(zopredil_shelf(
+        in modes, in records, in sub_modes, in coeffs, out out, out replies, out clipped
+    )));
     let items = out.chunks_exact(384).zip(replies).map(|(bytes, reply)| item(bytes, reply)).collect();
     Shelf { items, clipped: clipped[0] }
 }

@@ -1,8 +1,8 @@
 //! A whole still: every macroblock of a picture in raster order, each drawn from those before it.
 
-use crate::raw;
+use crate::call::call;
 use crate::reply::answer;
-use crate::Reply;
+use crate::{IntraBmode, IntraUvMode, IntraYMode, Reply};
 use std::{error, fmt};
 
 /// A still as it is stored, macroblock after macroblock in raster order. Nothing is asked of its parts: a wrong length or
@@ -21,6 +21,77 @@ pub struct Still<'a> {
     /// 400 dequantised coefficients a macroblock: Y2 16, Y 256, U 64, V 64, each block in raster order. Luma mode B does
     /// not use the first 16.
     pub coeffs: &'a [i16],
+}
+
+/// One of the bytes that say how a macroblock is drawn.
+#[derive(Debug, Clone, Copy, PartialEq, Eq, Hash)]
+pub enum ModeByte {
+    /// The number of its luma mode.
+    Luma,
+    /// The number of its chroma mode.
+    Chroma,
+    /// Whether its coefficients are skipped.
+    Skip,
+    /// The number of the mode of one of its sub-blocks, 0 to 15, in luma mode B.
+    SubBlock(usize),
+}
+
+/// A byte that says nothing, for which a macroblock is refused with [`Reply::UnknownByte`].
+#[derive(Debug, Clone, Copy, PartialEq, Eq, Hash)]
+pub struct UnknownByte {
+    /// Which of the macroblock's bytes it is.
+    pub byte: ModeByte,
+    /// What it holds.
+    pub value: u8,
+}
+
+impl fmt::Display for UnknownByte {
+    /// What the byte is, what it holds, and what would be known.
+    fn fmt(&self, f: &mut fmt::Formatter<'_>) -> fmt::Result {
+        let value = self.value;
+        match self.byte {
+            ModeByte::Luma => write!(f, "its luma mode is {value}, and 0 to 4 are known"),
+            ModeByte::Chroma => write!(f, "its chroma mode is {value}, and 0 to 3 are known"),
+            ModeByte::Skip => write!(f, "its skip byte is {value}, and 0 and 1 are known"),
+            ModeByte::SubBlock(k) => write!(f, "the mode of its sub-block {k} is {value}, and 0 to 9 are known"),
+        }
+    }
+}
+
+impl Still<'_> {
+    /// The first byte of a macroblock that says nothing, in the order luma mode, chroma mode, skip byte and, in luma mode
+    /// B, sub-block modes: what a still is refused for with [`Reply::UnknownByte`]. None where every byte is known, or
+    /// where the lists do not have the macroblock.
+    ///
+    /// ```
+    /// use zopredil::{ModeByte, Still, UnknownByte};
+    ///
+    /// // the second macroblock is in luma mode B, and its last sub-block is in no mode
+    /// let mut sub_modes = [0; 32];
+    /// sub_modes[31] = 10;
+    /// let still = Still { cols: 2, rows: 1, modes: &[0, 0, 1, 4, 0, 1], sub_modes: &sub_modes, coeffs: &[0; 800] };
+    /// assert_eq!(still.unknown_byte(0), None);
+    /// assert_eq!(still.unknown_byte(1), Some(UnknownByte { byte: ModeByte::SubBlock(15), value: 10 }));
+    /// ```
+    pub fn unknown_byte(&self, macroblock: usize) -> Option<UnknownByte> {
+        let &[y, uv, skip] = part(self.modes, macroblock)?;
+        let mode = IntraYMode::from_number(y);
+        let sub_modes = if mode == Some(IntraYMode::B) { &part::<16>(self.sub_modes, macroblock)?[..] } else { &[] };
+        let whole = [
+            (ModeByte::Luma, y, mode.is_some()),
+            (ModeByte::Chroma, uv, IntraUvMode::from_number(uv).is_some()),
+            (ModeByte::Skip, skip, skip <= 1),
+        ];
+        let parts = sub_modes.iter().enumerate();
+        let parts = parts.map(|(k, &mode)| (ModeByte::SubBlock(k), mode, IntraBmode::from_number(mode).is_some()));
+        let unknown = whole.into_iter().chain(parts).find(|(_, _, known)| !known);
+        unknown.map(|(byte, value, _)| UnknownByte { byte, value })
+    }
+}
+
+/// The bytes of a macroblock in a list that has `N` of each.
+fn part<const N: usize>(list: &[u8], macroblock: usize) -> Option<&[u8; N]> {
+    list.get(macroblock.checked_mul(N)?..)?.first_chunk()
 }
 
 /// The three planes that a still is drawn into, rows unpadded.
@@ -95,29 +166,11 @@ fn still_answer(answered: u64, [clipped]: [u64; 1]) -> Result<u64, StillRefused>
 /// ```
 pub fn still(still: &Still<'_>, right: &[u8], planes: PlanesMut<'_>) -> Result<u64, StillRefused> {
     let mut clipped = [0];
-    // SAFETY: the pointers and the lengths are those of slices, and those that are written are lent alone.
-    let answered = unsafe {
-        raw::zopredil_still(
-            still.cols,
-            still.rows,
-            still.modes.as_ptr(),
-            still.modes.len(),
-            still.sub_modes.as_ptr(),
-            still.sub_modes.len(),
-            still.coeffs.as_ptr(),
-            still.coeffs.len(),
-            right.as_ptr(),
-            right.len(),
-            planes.y.as_mut_ptr(),
-            planes.y.len(),
-            planes.u.as_mut_ptr(),
-            planes.u.len(),
-            planes.v.as_mut_ptr(),
-            planes.v.len(),
-            clipped.as_mut_ptr(),
-            clipped.len(),
-        )
-    };
+    let Still { cols, rows, modes, sub_modes, coeffs } = *still;
+    let PlanesMut { y, u, v } = planes;
+    let answered = call!(zopredil_still(
+        cols, rows, in modes, in sub_modes, in coeffs, in right, out y, out u, out v, out clipped
+    ));
     still_answer(answered, clipped)
 }
 
@@ -147,26 +200,10 @@ pub fn still(still: &Still<'_>, right: &[u8], planes: PlanesMut<'_>) -> Result<u
 /// ```
 pub fn still_alone(still: &Still<'_>, planes: PlanesMut<'_>) -> Result<u64, StillRefused> {
     let mut clipped = [0];
-    // SAFETY: the pointers and the lengths are those of slices, and those that are written are lent alone.
-    let answered = unsafe {
-        raw::zopredil_still_alone(
-            still.cols,
-            still.rows,
-            still.modes.as_ptr(),
-            still.modes.len(),
-            still.sub_modes.as_ptr(),
-            still.sub_modes.len(),
-            still.coeffs.as_ptr(),
-            still.coeffs.len(),
-            planes.y.as_mut_ptr(),
-            planes.y.len(),
-            planes.u.as_mut_ptr(),
-            planes.u.len(),
-            planes.v.as_mut_ptr(),
-            planes.v.len(),
-            clipped.as_mut_ptr(),
-            clipped.len(),
-        )
-    };
+    let Still { cols, rows, modes, sub_modes, coeffs } = *still;
+    let PlanesMut { y, u, v } = planes;
+    let answered = call!(zopredil_still_alone(
+        cols, rows, in modes, in sub_modes, in coeffs, out y, out u, out v, out clipped
+    ));
     still_answer(answered, clipped)
 }

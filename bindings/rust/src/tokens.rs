@@ -1,6 +1,6 @@
 //! The coefficient tokens of a partition, macroblock after macroblock.
 
-use crate::raw;
+use crate::call::call;
 use crate::reply::{answer, done};
 use crate::Reply;
 
@@ -76,8 +76,7 @@ impl<'a> Partition<'a> {
     /// read.
     pub fn new(bytes: &'a [u8]) -> Partition<'a> {
         let mut state = [0; 4];
-        // SAFETY: the pointers and the lengths are those of slices; state alone is written.
-        done(unsafe { raw::zopredil_bool_start(bytes.as_ptr(), bytes.len(), state.as_mut_ptr(), state.len()) });
+        done(call!(zopredil_bool_start(in bytes, out state)));
         Partition { bytes, state }
     }
 
@@ -97,26 +96,10 @@ impl<'a> Partition<'a> {
         above: &mut Contexts,
         left: &mut Contexts,
     ) -> Result<[i16; 400], Reply> {
-        let (mut above_bytes, mut left_bytes, mut coeffs) = (above.to_bytes(), left.to_bytes(), [0; 400]);
-        // SAFETY: the pointers and the lengths are those of slices, and those that are written are lent alone.
-        answer(unsafe {
-            raw::zopredil_tokens(
-                self.bytes.as_ptr(),
-                self.bytes.len(),
-                probabilities.as_ptr(),
-                probabilities.len(),
-                y2.into(),
-                above_bytes.as_mut_ptr(),
-                above_bytes.len(),
-                left_bytes.as_mut_ptr(),
-                left_bytes.len(),
-                self.state.as_mut_ptr(),
-                self.state.len(),
-                coeffs.as_mut_ptr(),
-                coeffs.len(),
-            )
-        })?;
-        (*above, *left) = (Contexts::of_bytes(above_bytes), Contexts::of_bytes(left_bytes));
+        let (mut a, mut l, mut coeffs) = (above.to_bytes(), left.to_bytes(), [0; 400]);
+        let (bytes, state) = (self.bytes, &mut self.state);
+        answer(call!(zopredil_tokens(in bytes, in probabilities, y2.into(), out a, out l, out state, out coeffs)))?;
+        (*above, *left) = (Contexts::of_bytes(a), Contexts::of_bytes(l));
         Ok(coeffs)
     }
 }

@@ -1,6 +1,6 @@
 //! Dequantising, the inverse transforms and the residue sum (RFC 6386, section 14).
 
-use crate::raw;
+use crate::call::call;
 use crate::reply::{answer, done};
 use crate::Reply;
 
@@ -24,8 +24,7 @@ pub struct Y1DequantFactors {
 /// ```
 pub fn y1_factors(yac_qi: i32, ydc_delta: i32) -> Result<Y1DequantFactors, Reply> {
     let mut out = [0; 2];
-    // SAFETY: the pointer and the length are those of a local array.
-    answer(unsafe { raw::zopredil_y1_factors(yac_qi, ydc_delta, out.as_mut_ptr(), out.len()) })?;
+    answer(call!(zopredil_y1_factors(yac_qi, ydc_delta, out out)))?;
     Ok(Y1DequantFactors { dc: out[0], ac: out[1] })
 }
 
@@ -38,8 +37,7 @@ pub fn y1_factors(yac_qi: i32, ydc_delta: i32) -> Result<Y1DequantFactors, Reply
 /// assert_eq!(block[..3], [20, 40, 40]);
 /// ```
 pub fn dequant_block(coeffs: &mut [i16; 16], dc: i16, ac: i16) {
-    // SAFETY: the pointer and the length are the array's.
-    done(unsafe { raw::zopredil_dequant_block(coeffs.as_mut_ptr(), coeffs.len(), dc, ac) });
+    done(call!(zopredil_dequant_block(out coeffs, dc, ac)));
 }
 
 /// The base index of a macroblock and its five deltas (9.6). In a bitstream the index is 0 to 127 and a delta -15 to 15;
@@ -98,11 +96,7 @@ pub struct MbDequantFactors {
 pub fn dequantise(indices: QuantIndices, coeffs: &mut [i16; 400]) -> Result<MbDequantFactors, Reply> {
     let QuantIndices { yac_qi, ydc, y2dc, y2ac, uvdc, uvac } = indices;
     let mut factors = [0; 6];
-    let (at, len) = (coeffs.as_mut_ptr(), coeffs.len());
-    // SAFETY: the pointers and the lengths are those of two arrays, each lent alone.
-    answer(unsafe {
-        raw::zopredil_dequantise(yac_qi, ydc, y2dc, y2ac, uvdc, uvac, at, len, factors.as_mut_ptr(), factors.len())
-    })?;
+    answer(call!(zopredil_dequantise(yac_qi, ydc, y2dc, y2ac, uvdc, uvac, out coeffs, out factors)))?;
     let [y1_dc, y1_ac, y2_dc, y2_ac, uv_dc, uv_ac] = factors;
     Ok(MbDequantFactors { y1_dc, y1_ac, y2_dc, y2_ac, uv_dc, uv_ac })
 }
@@ -116,8 +110,7 @@ pub fn dequantise(indices: QuantIndices, coeffs: &mut [i16; 400]) -> Result<MbDe
 /// ```
 pub fn inverse_wht(input: &[i16; 16]) -> [i16; 16] {
     let mut out = [0; 16];
-    // SAFETY: the pointers and the lengths are those of the two arrays.
-    done(unsafe { raw::zopredil_inverse_wht(input.as_ptr(), input.len(), out.as_mut_ptr(), out.len()) });
+    done(call!(zopredil_inverse_wht(in input, out out)));
     out
 }
 
@@ -128,8 +121,7 @@ pub fn inverse_wht(input: &[i16; 16]) -> [i16; 16] {
 /// ```
 pub fn inverse_wht_dc_only(dc: i16) -> [i16; 16] {
     let mut out = [0; 16];
-    // SAFETY: the pointer and the length are those of a local array.
-    done(unsafe { raw::zopredil_inverse_wht_dc_only(dc, out.as_mut_ptr(), out.len()) });
+    done(call!(zopredil_inverse_wht_dc_only(dc, out out)));
     out
 }
 
@@ -142,8 +134,7 @@ pub fn inverse_wht_dc_only(dc: i16) -> [i16; 16] {
 /// ```
 pub fn inverse_dct(input: &[i16; 16]) -> [i16; 16] {
     let mut out = [0; 16];
-    // SAFETY: the pointers and the lengths are those of the two arrays.
-    done(unsafe { raw::zopredil_inverse_dct(input.as_ptr(), input.len(), out.as_mut_ptr(), out.len()) });
+    done(call!(zopredil_inverse_dct(in input, out out)));
     out
 }
 
@@ -173,20 +164,7 @@ pub fn inverse_dct_add_into(
     sub_col: usize,
 ) -> Result<u64, Reply> {
     let mut clipped = [0];
-    // SAFETY: the pointers and the lengths are those of arrays and of the slice, which is lent alone.
-    answer(unsafe {
-        raw::zopredil_inverse_dct_add_into(
-            input.as_ptr(),
-            input.len(),
-            plane.as_mut_ptr(),
-            plane.len(),
-            stride,
-            sub_row,
-            sub_col,
-            clipped.as_mut_ptr(),
-            clipped.len(),
-        )
-    })?;
+    answer(call!(zopredil_inverse_dct_add_into(in input, out plane, stride, sub_row, sub_col, out clipped)))?;
     Ok(clipped[0])
 }
 
@@ -203,15 +181,5 @@ pub fn inverse_dct_add_into(
 /// # Ok::<(), Reply>(())
 /// ```
 pub fn add_residue(prediction: &[u8], residue: &[i16], out: &mut [u8]) -> Result<(), Reply> {
-    // SAFETY: the pointers and the lengths are the slices', and out is lent alone.
-    answer(unsafe {
-        raw::zopredil_add_residue(
-            prediction.as_ptr(),
-            prediction.len(),
-            residue.as_ptr(),
-            residue.len(),
-            out.as_mut_ptr(),
-            out.len(),
-        )
-    })
+    answer(call!(zopredil_add_residue(in prediction, in residue, out out)))
 }

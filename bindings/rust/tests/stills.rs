@@ -350,3 +350,60 @@ fn lengths_of_the_count() {
     let (answered, clipped) = counted(&fit, &mut planes, 1);
     assert_eq!((answered, clipped[1]), (256 + 8, none));
 }
+
+/// The library refuses a macroblock exactly where one of its bytes is named as unknown, and it is the first such.
+#[test]
+fn the_byte_that_a_still_is_refused_for() {
+    for y_mode in [0, 4] {
+        for place in 0..19 {
+            for value in 0..=255 {
+                let (mut modes, mut sub_modes) = ([0, 0, 1, y_mode, 0, 1], [0; 32]);
+                match place {
+                    0..3 => modes[3 + place] = value,
+                    _ => sub_modes[16 + place - 3] = value,
+                }
+                let still = Still { cols: 2, rows: 1, modes: &modes, sub_modes: &sub_modes, coeffs: &[0; 800] };
+                let answer = still_alone(&still, Planes::marked(2).lent());
+                let (byte, in_b) = match place {
+                    0 => (ModeByte::Luma, false),
+                    1 => (ModeByte::Chroma, false),
+                    2 => (ModeByte::Skip, false),
+                    _ => (ModeByte::SubBlock(place - 3), true),
+                };
+                assert_eq!(still.unknown_byte(0), None);
+                match answer {
+                    Ok(_) => assert_eq!(still.unknown_byte(1), None),
+                    Err(refused) => {
+                        assert_eq!((refused.reply, refused.macroblock), (Reply::UnknownByte, 1));
+                        assert_eq!(still.unknown_byte(1), Some(UnknownByte { byte, value }));
+                        assert!(!in_b || y_mode == 4);
+                    }
+                }
+            }
+        }
+    }
+    // macroblocks that the lists do not have
+    let still = Still { cols: 2, rows: 1, modes: &[9; 5], sub_modes: &[9; 3], coeffs: &[] };
+    assert_eq!(still.unknown_byte(0).map(|unknown| unknown.byte), Some(ModeByte::Luma));
+    for macroblock in [1, 2, usize::MAX / 3, usize::MAX] {
+        assert_eq!(still.unknown_byte(macroblock), None);
+    }
+}
+
+#[test]
+fn refusals_are_errors() {
+    fn line(error: impl std::error::Error + Send + Sync + 'static) -> String {
+        let boxed: Box<dyn std::error::Error + Send + Sync> = error.into();
+        boxed.to_string()
+    }
+    assert_eq!(line(Reply::OutsidePlane), "a 4x4 block does not lie in its plane");
+    let refused = StillRefused { reply: Reply::UnknownByte, macroblock: 7, clipped: 0 };
+    assert!(line(refused).starts_with("macroblock 7: "));
+}
+
+#[test]
+fn the_version_is_the_header_s() {
+    let header = include_str!("../../../include/zopredil.h");
+    assert!(header.contains(&format!("\n#define ZOPREDIL_VERSION \"{VERSION}\"\n")));
+    assert_eq!(VERSION, env!("CARGO_PKG_VERSION"));
+}

@@ -1,7 +1,7 @@
 //! How many sums of prediction and residue are below 0 or above 255 before they are clamped. The Rust does not count:
 //! the sums are made here, from its own predictions and its own inverse DCT.
 
-use crate::expected::Blocks;
+use crate::blocks::Blocks;
 use vp8::intra_predict::{predict_b4x4, predict_uv8x8, predict_y16x16};
 use vp8::inverse_transform::{inverse_dct_4x4, inverse_wht_4x4};
 use vp8::macroblock::{IntraBmode, IntraUvMode, IntraYMode};

@@ -4,6 +4,7 @@
 //! A function has the parameters of its C namesake, slices for pointers and lengths, and any lengths are allowed: it
 //! returns the reply, and leaves in the slices that it is lent what the C function must leave there.
 
+use crate::blocks::Blocks;
 use crate::clipped as clipped_sums;
 use vp8::dequant::MbDequantFactors;
 use vp8::frame::MbCoeffs;
@@ -217,25 +218,6 @@ pub fn neighbors(record: &[u8; 81]) -> MbNeighbors {
         v_topleft: there(record, 7, 64).map(|[p]| p),
         v_above: there(record, 8, 65),
         v_left: there(record, 9, 73),
-    }
-}
-
-/// The coefficients of a macroblock as the Rust takes them.
-pub struct Blocks {
-    pub y2: [i16; 16],
-    pub y: [[i16; 16]; 16],
-    pub u: [[i16; 16]; 4],
-    pub v: [[i16; 16]; 4],
-}
-
-impl Blocks {
-    /// The 400 numbers, Y2 16, Y 256, U 64, V 64, taken apart.
-    pub fn of(coeffs: &[i16; 400]) -> Blocks {
-        fn blocks<const N: usize>(from: &[i16]) -> [[i16; 16]; N] {
-            std::array::from_fn(|b| from[16 * b..16 * b + 16].try_into().expect("a block has sixteen"))
-        }
-        let [y2] = blocks(coeffs);
-        Blocks { y2, y: blocks(&coeffs[16..]), u: blocks(&coeffs[272..]), v: blocks(&coeffs[336..]) }
     }
 }
 

@@ -2,8 +2,9 @@
 //! raster order, each on neighbours taken from the planes that were drawn so far. The Rust has neither the calls nor
 //! the gathering, so the edges of the picture, the refusals and their order are stated here from the project's papers.
 
+use crate::blocks::Blocks;
 use crate::clipped as clipped_sums;
-use crate::expected::{walk, Blocks, B_MODES, OUTSIDE_PICTURE, UNKNOWN_BYTE, UV_MODES, WRONG_LENGTH, Y_MODES};
+use crate::expected::{walk, B_MODES, OUTSIDE_PICTURE, UNKNOWN_BYTE, UV_MODES, WRONG_LENGTH, Y_MODES};
 use vp8::macroblock::{IntraBmode, IntraUvMode, IntraYMode};
 use vp8::reconstruct::MbNeighbors;
 

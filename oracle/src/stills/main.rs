@@ -31,7 +31,11 @@ impl Case {
         };
         let wrong = || format!("{}: it is no still", file.display());
         let (cols, rows) = size(2).zip(size(3)).ok_or_else(wrong)?;
-        let count = cols.checked_mul(rows).filter(|&count| count <= 1 << 20).ok_or_else(wrong)?;
+        let side = 1..=1024;
+        if !side.contains(&cols) || !side.contains(&rows) {
+            return Err(format!("{}: it says {cols}x{rows} macroblocks, and a side is 1 to 1024", file.display()));
+        }
+        let count = cols * rows;
         if !bytes.starts_with(b"ZSTILL1\n") || bytes.len() != HEAD + 819 * count {
             return Err(wrong());
         }

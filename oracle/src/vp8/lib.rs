@@ -1,5 +1,5 @@
 //! The Rust that the library is compared with, as a crate: six of its files, unchanged, with the feature `simd` off.
-//! `oracle/parts.sh` puts copies of them into `target/rust-src`, so that nothing here can reach the folder they are from.
+//! `tools/parts.sh` puts copies of them into `target/rust-src`, so that nothing here can reach the folder they are from.
 //!
 //! The modules `bool_decoder`, `coded_header` and `frame` are stand-ins. `dct_tokens.rs` reads its bools from the first,
 //! which is written for the comparison: what it does at the end of a partition is the comparison's rule and not the

@@ -1,5 +1,6 @@
-# The parts that oracle/run, oracle/sample and bench/run are built of, as shell functions. They are run from the
+# The parts that the scripts of oracle/ and bench/ are built of, as shell functions. They are run from the
 # repository's root. What they make stands in target/.
+. tools/library.sh
 
 # The files of the Rust that are used.
 rust_files='dct_tokens.rs dequant.rs intra_predict.rs inverse_transform.rs macroblock.rs reconstruct.rs'
@@ -39,24 +40,9 @@ build_judge() {
         --extern reader="$1/libreader.rlib" oracle/src/judge/lib.rs -o "$1/libjudge.rlib"
 }
 
-# find_archive: sets archive to the folder of libzopredil.a. Without ZOPREDIL_LIB_DIR that is target/host, and the
-# archive is built where it is missing or older than the code.
-find_archive() {
-    if [ -n "${ZOPREDIL_LIB_DIR:-}" ]; then
-        archive=$ZOPREDIL_LIB_DIR
-    else
-        archive=target/host
-        if [ ! -f "$archive/libzopredil.a" ] ||
-            [ -n "$(find crates/*/src -type f -newer "$archive/libzopredil.a")" ]; then
-            tools/build-archive
-        fi
-    fi
-    [ -f "$archive/libzopredil.a" ] || { echo "there is no libzopredil.a in $archive" >&2; exit 2; }
-}
-
 # build_library OUT: the Rust crate over the archive as OUT/libzopredil.rlib.
 build_library() {
-    rustc --edition 2021 --crate-type rlib --crate-name zopredil -C opt-level=3 \
+    ZOPREDIL_VERSION=$(version) rustc --edition 2021 --crate-type rlib --crate-name zopredil -C opt-level=3 \
         -L native="$archive" -l static=zopredil bindings/rust/src/lib.rs -o "$1/libzopredil.rlib"
 }
 

@@ -1,5 +1,5 @@
-//! The picture code of VP8 key frames (RFC 6386, sections 12 and 14): safe functions over `libzopredil.a`, whose code
-//! is proved against the RFC.
+//! The picture code of VP8 key frames (RFC 6386, sections 7 and 12 to 15): safe functions over `libzopredil.a`, whose
+//! code is proved against the RFC.
 //!
 //! # A still
 //!
@@ -59,6 +59,9 @@
 //! [`y1_factors`] and [`dequant_block`] (14.1), [`inverse_wht`] (14.3), [`inverse_dct`] (14.4), [`add_residue`] (14.5),
 //! [`predict_y16x16`], [`predict_uv8x8`] and [`predict_b4x4`] (12.2 and 12.3).
 //!
+//! Before them stands a [`Partition`], which hands out the coefficients of stored macroblocks (7 and 13); after them
+//! [`filter`] and [`filter_levels`], the loop filter over a finished picture (15).
+//!
 //! The calls that draw, and [`inverse_dct_add_into`], also say how many sums of prediction and residue were below 0 or
 //! above 255 before they were clamped.
 //!
@@ -79,6 +82,7 @@
 // A further call is declared in raw.rs and has its safe function in a file of its own, named here.
 mod call;
 mod distance;
+mod filter;
 mod macroblock;
 mod modes;
 mod neighbors;
@@ -87,9 +91,11 @@ pub mod raw;
 mod reply;
 mod shelf;
 mod still;
+mod tokens;
 mod transform;
 
 pub use distance::{distance, Distance, Distances};
+pub use filter::{filter, filter_levels, FilterKind};
 pub use macroblock::{gather, macroblock, right_pixels, Macroblock};
 pub use modes::{IntraBmode, IntraUvMode, IntraYMode, MbModes};
 pub use neighbors::{ChromaEdges, LumaEdges, Neighbors};
@@ -97,6 +103,7 @@ pub use predict::{predict_b4x4, predict_uv8x8, predict_y16x16};
 pub use reply::Reply;
 pub use shelf::{shelf, Job, MbPlanes, Shelf};
 pub use still::{still, still_alone, ModeByte, PlanesMut, Still, StillRefused, UnknownByte};
+pub use tokens::{Contexts, Partition};
 pub use transform::{
     add_residue, dequant_block, dequantise, inverse_dct, inverse_dct_add_into, inverse_wht, inverse_wht_dc_only,
     y1_factors, MbDequantFactors, QuantIndices, Y1DequantFactors,

@@ -143,4 +143,38 @@ extern "C" {
         reports: *mut u64, reports_len: usize,
         totals: *mut u64, totals_len: usize,
     ) -> u32;
+
+    /// The bool decoder's state at the start of a partition; `state` 4.
+    pub fn zopredil_bool_start(partition: *const u8, partition_len: usize, state: *mut u64, state_len: usize) -> u32;
+
+    /// The coefficients of a partition's next macroblock; `probabilities` 1,056, `above` and `left` 9, `state` 4,
+    /// `coeffs` 400.
+    pub fn zopredil_tokens(
+        partition: *const u8, partition_len: usize,
+        probabilities: *const u8, probabilities_len: usize,
+        y2: u8,
+        above: *mut u8, above_len: usize,
+        left: *mut u8, left_len: usize,
+        state: *mut u64, state_len: usize,
+        coeffs: *mut i16, coeffs_len: usize,
+    ) -> u32;
+
+    /// Filters a finished picture with one level; for n macroblocks `inner` n, `y` 256 n, `u` and `v` 64 n.
+    pub fn zopredil_filter(
+        cols: usize, rows: usize, kind: u8, level: u8, sharpness: u8,
+        inner: *const u8, inner_len: usize,
+        y: *mut u8, y_len: usize,
+        u: *mut u8, u_len: usize,
+        v: *mut u8, v_len: usize,
+    ) -> u32;
+
+    /// The same with a level for each macroblock; `levels` n.
+    pub fn zopredil_filter_levels(
+        cols: usize, rows: usize, kind: u8, sharpness: u8,
+        levels: *const u8, levels_len: usize,
+        inner: *const u8, inner_len: usize,
+        y: *mut u8, y_len: usize,
+        u: *mut u8, u_len: usize,
+        v: *mut u8, v_len: usize,
+    ) -> u32;
 }

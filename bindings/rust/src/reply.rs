@@ -20,12 +20,18 @@ pub enum Reply {
     OutsidePicture = 7,
     /// A byte is no mode's number, or a skip or mark byte is neither 0 nor 1.
     UnknownByte = 8,
+    /// The bool decoder needs a byte past the end of its partition.
+    PastEnd = 9,
+    /// A token probability is 0.
+    ZeroProbability = 10,
+    /// A loop filter level is above 63, or the sharpness above 7.
+    LevelOrSharpness = 11,
     /// A list has more stills than 4,096.
     TooMany = 12,
 }
 
 impl Reply {
-    const ALL: [Reply; 8] = [
+    const ALL: [Reply; 11] = [
         Reply::WrongLength,
         Reply::OutsidePlane,
         Reply::BPredNotSupported,
@@ -33,6 +39,9 @@ impl Reply {
         Reply::IndexSum,
         Reply::OutsidePicture,
         Reply::UnknownByte,
+        Reply::PastEnd,
+        Reply::ZeroProbability,
+        Reply::LevelOrSharpness,
         Reply::TooMany,
     ];
 
@@ -69,6 +78,9 @@ impl fmt::Display for Reply {
             Reply::IndexSum => "a sum of quantiser indices is outside signed 32 bits",
             Reply::OutsidePicture => "the picture's size or the macroblock's place is outside its limits",
             Reply::UnknownByte => "a byte is no mode's number, or a skip or mark byte is neither 0 nor 1",
+            Reply::PastEnd => "the bool decoder needs a byte past the end of its partition",
+            Reply::ZeroProbability => "a token probability is 0",
+            Reply::LevelOrSharpness => "a loop filter level is above 63, or the sharpness above 7",
             Reply::TooMany => "a list has more stills than 4,096",
         })
     }

@@ -415,12 +415,12 @@ fn right_pixels_after_a_refusal() {
 
 #[test]
 fn replies_have_their_numbers() {
-    for number in [1, 2, 3, 4, 5, 7, 8] {
+    for number in [1, 2, 3, 4, 5, 7, 8, 9, 10, 11] {
         let reply = Reply::from_number(number).unwrap();
         assert_eq!(reply.number(), number);
         assert!(!reply.to_string().is_empty());
     }
     assert_eq!(Reply::from_number(0), None);
     assert_eq!(Reply::from_number(6), None); // not used
-    assert_eq!(Reply::from_number(9), None);
+    assert_eq!(Reply::from_number(12), None);
 }

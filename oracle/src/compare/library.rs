@@ -1,6 +1,7 @@
 //! The functions of the library, called through the C interface with slices of any length. An empty slice is
 //! handed over as a null pointer.
 
+use judge::filter::Strength;
 use judge::still::{Planes, Still};
 use std::ptr;
 use zopredil::raw;
@@ -211,6 +212,53 @@ pub fn distance(sizes: &[u32], drawn: &[u8], measured: &[u8], reports: &mut [u64
             reports.len(),
             start_mut(totals),
             totals.len(),
+        )
+    }
+}
+
+pub fn bool_start(partition: &[u8], state: &mut [u64]) -> u32 {
+    unsafe { raw::zopredil_bool_start(start(partition), partition.len(), start_mut(state), state.len()) }
+}
+
+#[rustfmt::skip]
+pub fn tokens(
+    partition: &[u8],
+    probabilities: &[u8],
+    y2: u8,
+    above: &mut [u8],
+    left: &mut [u8],
+    state: &mut [u64],
+    coeffs: &mut [i16],
+) -> u32 {
+    let (src, src_len) = (start(partition), partition.len());
+    let (p, p_len) = (start(probabilities), probabilities.len());
+    let (a_len, l_len, s_len, c_len) = (above.len(), left.len(), state.len(), coeffs.len());
+    let (a, l, s, c) = (start_mut(above), start_mut(left), start_mut(state), start_mut(coeffs));
+    unsafe { raw::zopredil_tokens(src, src_len, p, p_len, y2, a, a_len, l, l_len, s, s_len, c, c_len) }
+}
+
+#[allow(clippy::too_many_arguments)] // the parameters of the C function
+#[rustfmt::skip]
+pub fn filter(
+    cols: usize, rows: usize, kind: u8, level: u8, sharpness: u8, inner: &[u8], planes: Planes<'_>,
+) -> u32 {
+    let Planes { y, u, v } = planes;
+    let (y_len, u_len, v_len) = (y.len(), u.len(), v.len());
+    let (y, u, v) = (start_mut(y), start_mut(u), start_mut(v));
+    let (i, i_len) = (start(inner), inner.len());
+    unsafe { raw::zopredil_filter(cols, rows, kind, level, sharpness, i, i_len, y, y_len, u, u_len, v, v_len) }
+}
+
+#[rustfmt::skip]
+pub fn filter_levels(strength: Strength<'_>, planes: Planes<'_>) -> u32 {
+    let Strength { cols, rows, kind, sharpness, levels, inner } = strength;
+    let Planes { y, u, v } = planes;
+    let (y_len, u_len, v_len) = (y.len(), u.len(), v.len());
+    let (y, u, v) = (start_mut(y), start_mut(u), start_mut(v));
+    let (l, l_len, i, i_len) = (start(levels), levels.len(), start(inner), inner.len());
+    unsafe {
+        raw::zopredil_filter_levels(
+            cols, rows, kind, sharpness, l, l_len, i, i_len, y, y_len, u, u_len, v, v_len,
         )
     }
 }

@@ -3,6 +3,7 @@
 //! where any does.
 
 mod distances;
+mod filters;
 mod gathering;
 mod lengths;
 mod library;
@@ -11,6 +12,7 @@ mod replay;
 mod shelves;
 mod stills;
 mod tally;
+mod tokens;
 mod transforms;
 mod walkers;
 
@@ -65,13 +67,16 @@ fn compare() -> Result<bool, String> {
     let shelved = shelves::shelves(&mut run);
     let measured = distances::distances(&mut run);
     distances::refused(&mut run);
+    let read = tokens::tokens(&mut run);
+    let filtered = filters::filters(&mut run);
     lengths::wrong_lengths(&mut run);
     if let Some(file) = words.sample {
         let bytes = std::fs::read(&file).map_err(|why| format!("{file}: {why}"))?;
         replay::sample(&bytes, &mut run);
     }
-    print!("in all {blocks} blocks, {macroblocks} macroblocks, {stills} stills, {shelved} macroblocks on shelves and ");
-    println!("{measured} measured stills; differing {}", run.differing);
+    print!("in all {blocks} blocks, {macroblocks} macroblocks, {stills} stills, {shelved} macroblocks on shelves; ");
+    print!("{measured} measured stills, {read} macroblocks read and {filtered} filtered; ");
+    println!("differing {}", run.differing);
     Ok(run.differing == 0)
 }
 

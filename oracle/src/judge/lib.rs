@@ -5,6 +5,8 @@ pub mod blocks;
 pub mod clipped;
 pub mod data;
 pub mod expected;
+pub mod filter;
 pub mod format;
 pub mod random;
 pub mod still;
+pub mod tokens;

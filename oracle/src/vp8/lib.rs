@@ -1,11 +1,14 @@
-//! The Rust that the library is compared with, as a crate: five of its files, unchanged, with the feature `simd` off.
+//! The Rust that the library is compared with, as a crate: six of its files, unchanged, with the feature `simd` off.
 //! `tools/parts.sh` puts copies of them into `target/rust-src`, so that nothing here can reach the folder they are from.
 //!
-//! The modules `bool_decoder`, `coded_header`, `dct_tokens` and `frame` are stand-ins. `macroblock.rs` and `dequant.rs`
-//! name the first three in the functions that read from a bit stream or a header, which nothing here calls; the three mode
-//! enums, which the other files use, and the factors need none of them. Of `frame` there are the coefficients of a
-//! macroblock, the array that `dequant.rs` multiplies.
+//! The modules `bool_decoder`, `coded_header` and `frame` are stand-ins. `dct_tokens.rs` reads its bools from the first,
+//! which is written for the comparison: what it does at the end of a partition is the comparison's rule and not the
+//! Rust's. `macroblock.rs` and `dequant.rs` name it and the second in the functions that read from a bit stream or a
+//! header, which nothing here calls. Of `frame` there are the coefficients of a macroblock.
 
+#[rustfmt::skip]
+#[path = "../../../target/rust-src/dct_tokens.rs"]
+pub mod dct_tokens;
 #[rustfmt::skip]
 #[path = "../../../target/rust-src/dequant.rs"]
 pub mod dequant;
@@ -22,30 +25,13 @@ pub mod macroblock;
 #[path = "../../../target/rust-src/reconstruct.rs"]
 pub mod reconstruct;
 
-/// Stand-in: a decoder that cannot be made, with the one method that `macroblock.rs` calls.
-pub mod bool_decoder {
-    #[derive(Debug, Clone, Copy, PartialEq, Eq)]
-    pub enum BoolDecoderError {}
+pub mod bool_decoder;
 
-    impl std::fmt::Display for BoolDecoderError {
-        fn fmt(&self, _: &mut std::fmt::Formatter<'_>) -> std::fmt::Result {
-            match *self {}
-        }
-    }
-
-    pub enum Never {}
-
-    pub struct BoolDecoder<'a>(Never, std::marker::PhantomData<&'a [u8]>);
-
-    impl BoolDecoder<'_> {
-        pub fn read_bool(&mut self, _prob: u8) -> Result<bool, BoolDecoderError> {
-            match self.0 {}
-        }
-    }
-}
-
-/// Stand-in: the fields that `macroblock.rs` and `dequant.rs` read of a frame header.
+/// Stand-in: what `dct_tokens.rs`, `macroblock.rs` and `dequant.rs` read of a frame header.
 pub mod coded_header {
+    /// The probabilities that a frame replaces, by plane, band, context and node.
+    pub type TokenProbUpdates = [[[[Option<u8>; 11]; 3]; 8]; 4];
+
     pub struct QuantIndices {
         pub y_ac_qi: u8,
         pub y_dc_delta: Option<i8>,
@@ -71,36 +57,9 @@ pub mod coded_header {
     }
 }
 
-/// Stand-in: the names that `dequant.rs` hands on to the reading of tokens.
-pub mod dct_tokens {
-    use crate::bool_decoder::BoolDecoder;
-    use crate::frame::MbCoeffs;
-
-    pub struct CoeffProbs;
-    pub struct MbEntropyCtx;
-    pub enum MbCoeffError {}
-
-    pub struct MbDequantPairs {
-        pub y2: (i16, i16),
-        pub y1: (i16, i16),
-        pub uv: (i16, i16),
-    }
-
-    pub fn decode_mb_coeffs_dequant(
-        _dec: &mut BoolDecoder<'_>,
-        _has_y2: bool,
-        _skip: bool,
-        _probs: &CoeffProbs,
-        _pairs: &MbDequantPairs,
-        _above: &mut MbEntropyCtx,
-        _left: &mut MbEntropyCtx,
-    ) -> Result<MbCoeffs, MbCoeffError> {
-        unreachable!("a decoder cannot be made")
-    }
-}
-
 /// Stand-in: the coefficients of a macroblock, each block in raster order.
 pub mod frame {
+    #[derive(Clone, Default)]
     pub struct MbCoeffs {
         pub y2: [i16; 16],
         pub y: [[i16; 16]; 16],

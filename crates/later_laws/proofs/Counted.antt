@@ -113,15 +113,15 @@ module _ (w h : ℕ) (right : ℕ → List ℕ → List ℕ) (a : Given) (fits :
   pub counted-all : k < w * h → (whole .reply ≡ 0 → ⊥) → whole .index ≡ k → all ≡ counted
   counted-all l r i =
       let refused : turnOf w h right a (suc k) .reply ≡ 0 → ⊥ =
-          λ z.
-          let f : Finished w h whole k = drawn-finished w h (a .modes) (a .subs) (a .coeffs) right (a .y) (a .u) (a .v) k l z in
-          ⊎-elim r (λ q. omega arith) (f .drawn)
+      λ z.
+      let f : Finished w h whole k = drawn-finished w h (a .modes) (a .subs) (a .coeffs) right (a .y) (a .u) (a .v) k l z in
+      ⊎-elim r (λ q. omega arith) (f .drawn)
       in
       let none : rest ≡ 0 =
-          total-ext (w * h - k) _ (λ i. 0)
-          (λ j m.
-          let s = first-refused w h (a .modes) (a .subs) (a .coeffs) right (a .y) (a .u) (a .v) (suc k) (suc (k + j)) (omega arith) refused in
-          count-refused w h right a fits (k + j) (omega arith) (λ z. refused (ap (λ (d : Canvas). d .reply) (sym s) ∙ z)))
-          ∙ total-none (w * h - k)
+      total-ext (w * h - k) _ (λ i. 0)
+      (λ j m.
+      let s = first-refused w h (a .modes) (a .subs) (a .coeffs) right (a .y) (a .u) (a .v) (suc k) (suc (k + j)) (omega arith) refused in
+      count-refused w h right a fits (k + j) (omega arith) (λ z. refused (ap (λ (d : Canvas). d .reply) (sym s) ∙ z)))
+      ∙ total-none (w * h - k)
       in
       in-two ∙ rw none (omega arith)

@@ -46,7 +46,7 @@ module _ (w h : ℕ) (right : List ℕ) (a : Given) where
         size = size-says w h (f .0);
         planes = accepted-lengths w h (a .modes) (a .subs) (a .coeffs) (a .y) (a .u) (a .v) g;
         coefficients =
-          fits w h (length (a .modes)) (length (a .subs)) (length (a .coeffs)) (length (a .y)) (length (a .u)) (length (a .v)) (f .0) g .coeffs-fit;
+            fits w h (length (a .modes)) (length (a .subs)) (length (a .coeffs)) (length (a .y)) (length (a .u)) (length (a .v)) (f .0) g .coeffs-fit;
       }
 
   -- a call counts what it has counted before macroblock k, and no more where it is refused there
@@ -111,7 +111,7 @@ module _ (w h : ℕ) (a : Given) where
         size = size-says w h (f .0);
         planes = accepted-lengths w h (a .modes) (a .subs) (a .coeffs) (a .y) (a .u) (a .v) g;
         coefficients =
-          fits w h (length (a .modes)) (length (a .subs)) (length (a .coeffs)) (length (a .y)) (length (a .u)) (length (a .v)) (f .0) g .coeffs-fit;
+            fits w h (length (a .modes)) (length (a .subs)) (length (a .coeffs)) (length (a .y)) (length (a .u)) (length (a .v)) (f .0) g .coeffs-fit;
       }
 
   -- a call counts what it has counted before macroblock k, and no more where it is refused there

@@ -105,8 +105,8 @@ module _ (w h : ℕ) (right : ℕ → List ℕ → List ℕ) (steady : Within w 
           left = left-same (side p) w (planeOf p before) (planeOf p other) (some-side p) long (k / w) (k % w) left-block;
           corner = corner-same (side p) w (planeOf p before) (planeOf p other) (some-side p) long (k / w) (k % w) corner-block;
           above-right = λ y.
-            subst (λ (z : Plane). aboveRightOf (planeOf z before) w (k / w) (k % w) (right (k / w) (before .y)) ≡ aboveRightOf (planeOf z other) w (k / w) (k % w) (right (k / w) (other .y)))
-            (sym y) (rights y);
+              subst (λ (z : Plane). aboveRightOf (planeOf z before) w (k / w) (k % w) (right (k / w) (before .y)) ≡ aboveRightOf (planeOf z other) w (k / w) (k % w) (right (k / w) (other .y)))
+              (sym y) (rights y);
         }
 
     same-made : SameMade p a b k

@@ -87,8 +87,8 @@ example-calls at l h j n =
       skip = refl;
       sub-blocks = refl;
       coefficients =
-        part-same (pos 0) (only at 0) (only at 800) 400 (400 * j) (only-length at 0 (omega arith) ∙ sym (only-length at 800 (omega arith)))
-        (λ i k. differ-at at (pos 0) (pos 800) (replicate (1599 - at) (pos 0)) (400 * j + i) (λ e. n (omega arith)));
+          part-same (pos 0) (only at 0) (only at 800) 400 (400 * j) (only-length at 0 (omega arith) ∙ sym (only-length at 800 (omega arith)))
+          (λ i k. differ-at at (pos 0) (pos 800) (replicate (1599 - at) (pos 0)) (400 * j + i) (λ e. n (omega arith)));
     }
 
 -- ---- the macroblocks at the borders

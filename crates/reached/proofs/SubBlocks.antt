@@ -110,6 +110,6 @@ module _ (m : MbModes) (coded : m .skip ≡ false) (k : ℕ) (hk : k < 16) where
       let less : getD (drawn k 0) (placeIn j 15) 0 < getD (drawn k 800) (placeIn j 15) 0 = ltb-true _ _ (grows j h ∙ reaches j n) in
       let f : subOf (drawn k 0) j ≡ subOf (drawn k 800) j = rw (call-y 0, call-y 800) at e in
       let same : getD (drawn k 0) (placeIn j 15) 0 ≡ getD (drawn k 800) (placeIn j 15) 0 =
-          sym (last-is (drawn k 0) j) ∙ ap (λ (l : List ℕ). getD l 15 0) f ∙ last-is (drawn k 800) j
+      sym (last-is (drawn k 0) j) ∙ ap (λ (l : List ℕ). getD l 15 0) f ∙ last-is (drawn k 800) j
       in
       omega arith

@@ -156,8 +156,7 @@ pub nonB-chroma-ruled : (m : MbModes) (n : MbNeighbors) (c : List ℤ) (r : Reco
     → (r .u ≡ chromaU lumaOf16x16 (m .uv) (m .skip) n c) × (r .v ≡ chromaV lumaOf16x16 (m .uv) (m .skip) n c)
 unfolding wholeOf
 nonB-chroma-ruled m n c r promise accepted =
-    let e : r ≡ wholeOf (m .y) (m .uv) (m .skip) n c = promise ∙ nonB-accepted m n c (rw promise at accepted) .2 in
-    (
+    let e : r ≡ wholeOf (m .y) (m .uv) (m .skip) n c = promise ∙ nonB-accepted m n c (rw promise at accepted) .2 in (
       ap (λ (x : ReconstructedMb). x .u) e ∙ u-ruled (m .uv) (m .skip) n c lumaOf16x16,
       ap (λ (x : ReconstructedMb). x .v) e ∙ v-ruled (m .uv) (m .skip) n c lumaOf16x16,
     )

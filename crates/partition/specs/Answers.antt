@@ -54,12 +54,8 @@ putAnswer m above left state =
 
 unfoldable pub flaggedAnswer : List ℕ → List ℕ → ℕ → List ℕ → List ℕ → List ℕ → Answer
 flaggedAnswer partition probs y2 above left state =
-    pick (ltb y2 2)
-    (pick (allFlags above)
-    (pick (allFlags left)
+    pick (ltb y2 2 && allFlags above && allFlags left)
     (putAnswer (decoded partition probs (eqb y2 1) (flagsOf above) (flagsOf left) (stateIn state)) above left state)
-    (answer 8 above left state blank))
-    (answer 8 above left state blank))
     (answer 8 above left state blank)
 
 unfoldable pub tokensAnswer : List ℕ → List ℕ → ℕ → List ℕ → List ℕ → List ℕ → List ℤ → Answer

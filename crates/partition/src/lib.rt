@@ -1,7 +1,8 @@
 // Partition bytes as stored, over lent slices: RFC 6386, sections 7 and 13. A bool decoder's state is four numbers, as 7.3 keeps
 // it: the place of the next byte, the range, two bytes of value, and how many bits were shifted out of them.
 ghost use mathlib.Core.Path.{_≡_};
-ghost use Prim.Native.Nat.{_<_};
+ghost use mathlib.Core.Bool.{_&&_};
+ghost use lib.Dec.{ltb};
 ghost use lib.ListN.{length};
 ghost use Rattle.slices.specs.Copies.{putIn};
 ghost use Rattle.partition.specs.Answers.{numbersOf, stateIn, flagsOf, bytesOf, allFlags, startAnswer, putAnswer, flaggedAnswer, tokensAnswer};
@@ -141,6 +142,16 @@ fn put_all(
     m.reply
 }
 
+// Whether y2 and the flags are each 0 or 1.
+fn known_flags(y2: u8, above: &[u8], left: &[u8]) -> bool
+    requires { ⌜ (length (now above) ≡ 9) × (length (now left) ≡ 9) ⌝ }
+    ensures { λ r. ⌜ r ≡ ltb y2 2 && allFlags (now (above .entry)) && allFlags (now (left .entry)) ⌝ }
+{
+    let a = all_flags(above);
+    let l = all_flags(left);
+    (y2 < 2) & a & l
+}
+
 // Slices of the right lengths.
 fn flagged(
     partition: &[u8],
@@ -155,19 +166,16 @@ fn flagged(
     ensures { λ r. ⌜ (r, now (above .exit), now (left .exit), now (state .exit), now (coeffs .exit))
         ≡ flaggedAnswer (now (partition .entry)) (now (probabilities .entry)) y2 (now (above .entry)) (now (left .entry)) (now (state .entry)) ⌝ }
 {
-    if y2 < 2 {
-        if all_flags(above) {
-            if all_flags(left) {
-                let a = flags_of(above);
-                let l = flags_of(left);
-                let s = state_of(state);
-                let m = decode_macroblock(partition, probabilities, y2 == 1, a, l, s);
-                return put_all(m, above, left, state, coeffs);
-            }
-        }
+    if known_flags(y2, above, left) {
+        let a = flags_of(above);
+        let l = flags_of(left);
+        let s = state_of(state);
+        let m = decode_macroblock(partition, probabilities, y2 == 1, a, l, s);
+        put_all(m, above, left, state, coeffs)
+    } else {
+        put_coeffs(coeffs, no_coefficients());
+        reply::UNKNOWN_BYTE
     }
-    put_coeffs(coeffs, no_coefficients());
-    reply::UNKNOWN_BYTE
 }
 
 fn no_coefficients() -> [i16; 400]

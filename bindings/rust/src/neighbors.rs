@@ -159,15 +159,12 @@ impl Neighbors {
     /// ```
     pub fn to_bytes(&self) -> [u8; 81] {
         let Neighbors { y, u, v } = self;
+        let luma = [y.topleft_there, y.above_there, y.above_right_there, y.left_there];
+        let chroma = |edges: &ChromaEdges| [edges.topleft_there, edges.above_there, edges.left_there];
+        let marks = luma.into_iter().chain(chroma(u)).chain(chroma(v)).map(u8::from);
+        let pixels = [y.row.as_slice(), &y.left, &u.row, &u.left, &v.row, &v.left].concat();
         let mut bytes = [0; 81];
-        let marks = [
-            [y.topleft_there, y.above_there, y.above_right_there, y.left_there].as_slice(),
-            &[u.topleft_there, u.above_there, u.left_there],
-            &[v.topleft_there, v.above_there, v.left_there],
-        ];
-        let pixels = [y.row.as_slice(), &y.left, &u.row, &u.left, &v.row, &v.left];
-        let marks = marks.concat().into_iter().map(u8::from);
-        for (byte, value) in bytes.iter_mut().zip(marks.chain(pixels.concat())) {
+        for (byte, value) in bytes.iter_mut().zip(marks.chain(pixels)) {
             *byte = value;
         }
         bytes

@@ -305,6 +305,7 @@ fn right_pixels_are_copies_of_the_last() {
     let (y, u, v) = picture();
     let right = right_pixels(&y, 3, 2, 1).unwrap();
     assert_eq!(right, [y[15 * 48 + 47]; 4]);
-    let edges = gather(&y, &u, &v, 3, 2, 2, 1, right).unwrap();
-    assert_eq!(edges.y_above_right, Some([edges.y_above.unwrap()[15]; 4]));
+    let edges = gather(&y, &u, &v, 3, 2, 2, 1, right).unwrap().y;
+    assert!(edges.above_there && edges.above_right_there);
+    assert_eq!(edges.row[17..], [edges.row[16]; 4]);
 }

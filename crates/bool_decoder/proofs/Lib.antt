@@ -6,3 +6,6 @@ pub mod Four
 pub mod Step
 pub mod States
 pub mod Runs
+pub mod OneAnswer
+pub mod Later
+pub mod Windows

@@ -2,3 +2,4 @@ pub mod BoolCoder
 pub mod Held
 pub mod Inside
 pub mod State
+pub mod Rfc

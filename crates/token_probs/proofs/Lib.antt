@@ -1,2 +1,3 @@
 pub mod Default
 pub mod Zeros
+pub mod OneAnswer

@@ -3,3 +3,4 @@ pub mod Slots
 pub mod Positions
 pub mod Blocks
 pub mod Told
+pub mod OneAnswer

@@ -283,10 +283,10 @@ mod tests {
         for stream in [
             &[0x07][..],                                 // a block of kind 3
             &[0x01, 3, 0, 0xfc, 0xfe, b'a', b'b', b'c'], // a stored length that its complement does not fit
-            &[0x4b, 0x4c, 0x02, 0x41, 0x00],             // a copy from before the start
+            &[0x03, 0x02, 0x00],                         // a copy from before the start
             &[0xfd, 0xff, 0xff, 0xff, 0xff, 0xff],       // too many codes
         ] {
-            assert!(matches!(inflate(stream, 1000), Err(Wrong::Damaged | Wrong::Short)), "{stream:x?}");
+            assert_eq!(inflate(stream, 1000), Err(Wrong::Damaged), "{stream:x?}");
         }
         assert_eq!(inflate(&[], 1000), Err(Wrong::Short));
         // no bytes at all end in a refusal, whatever they are

@@ -276,5 +276,9 @@ fn the_version_and_the_help() {
     let version = drawn(&folder, &["--version"]);
     let number = version.strip_prefix("zopredil ").unwrap().trim_end();
     assert!(header.contains(&format!("\n#define ZOPREDIL_VERSION \"{number}\"\n")), "{version}");
-    assert_eq!(drawn(&folder, &["draw", "--help"]), drawn(&folder, &["--help"]));
+    let all = drawn(&folder, &["--help"]);
+    for command in ["distance", "draw"] {
+        let own = drawn(&folder, &[command, "--help"]);
+        assert!(own.starts_with(&format!("zopredil {command} ")) && all.contains(own.trim_end()), "{own}");
+    }
 }

@@ -50,10 +50,11 @@ impl From<[u64; 3]> for Distance {
 /// # Ok::<(), zopredil::Reply>(())
 /// ```
 pub fn distance(sizes: &[[u32; 2]], drawn: &[u8], measured: &[u8]) -> Result<Distances, Reply> {
-    let sizes = sizes.as_flattened();
+    let sizes: Vec<u32> = sizes.iter().flatten().copied().collect();
     // a list that is refused for its length asks for no room
-    let mut reports = vec![[0u64; 3]; if sizes.len() > 8192 { 0 } else { sizes.len() / 2 }];
-    let mut total = [0u64; 3];
-    answer(call!(zopredil_distance(in sizes, in drawn, in measured, out reports.as_flattened_mut(), out total)))?;
-    Ok(Distances { stills: reports.into_iter().map(Distance::from).collect(), total: total.into() })
+    let stills = if sizes.len() > 8192 { 0 } else { sizes.len() / 2 };
+    let (mut reports, mut total) = (vec![0u64; 3 * stills], [0u64; 3]);
+    answer(call!(zopredil_distance(in sizes, in drawn, in measured, out reports, out total)))?;
+    let stills = reports.chunks_exact(3).map(|report| Distance::from([report[0], report[1], report[2]])).collect();
+    Ok(Distances { stills, total: total.into() })
 }

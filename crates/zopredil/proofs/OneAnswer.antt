@@ -39,6 +39,10 @@ use Rattle.zopredil.proofs.zopredil_right_pixels.Reads as right-pixels
 use Rattle.zopredil.proofs.zopredil_right_pixels.Kinds as right-pixels-k
 use Rattle.zopredil.proofs.zopredil_shelf.Reads as shelf
 use Rattle.zopredil.proofs.zopredil_shelf.Kinds as shelf-k
+use Rattle.zopredil.proofs.filter.zopredil_filter.Reads as filter
+use Rattle.zopredil.proofs.filter.zopredil_filter.Kinds as filter-k
+use Rattle.zopredil.proofs.filter.zopredil_filter_levels.Reads as filter-levels
+use Rattle.zopredil.proofs.filter.zopredil_filter_levels.Kinds as filter-levels-k
 
 pub y1-factors-one : OneAnswerIn 1 y1-factors-k.ps y1-factors-k.r y1-factors.Post (λ κs s. s .1 .1 .0 .now)
 y1-factors-one κs a x y s t = same-pair
@@ -102,3 +106,15 @@ still-alone-one κs a x y s t = same-pair
 pub shelf-one : OneAnswerIn 7 shelf-k.ps shelf-k.r shelf.Post {A = List ℕ × (List ℕ × List ℕ)}
     (λ κs s. (s .1 .1 .1 .1 .0 .now, (s .1 .1 .1 .1 .1 .0 .now, s .1 .1 .1 .1 .1 .1 .0 .now)))
 shelf-one κs a x y s t = same-pair
+
+pub filter-one : OneAnswerIn 4 filter-k.ps filter-k.r filter.Post {A = List ℕ × List ℕ × List ℕ}
+    (λ κs s. (s .1 .1 .1 .1 .1 .1 .0 .now, s .1 .1 .1 .1 .1 .1 .1 .0 .now, s .1 .1 .1 .1 .1 .1 .1 .1 .0 .now))
+filter-one κs a x y s t p q =
+    let e = same p q in
+    (ap (λ (w : ℕ × List ℕ × List ℕ × List ℕ). w .0) e, ap (λ (w : ℕ × List ℕ × List ℕ × List ℕ). (w .1, w .2, w .3)) e)
+
+pub filter-levels-one : OneAnswerIn 5 filter-levels-k.ps filter-levels-k.r filter-levels.Post {A = List ℕ × List ℕ × List ℕ}
+    (λ κs s. (s .1 .1 .1 .1 .1 .1 .0 .now, s .1 .1 .1 .1 .1 .1 .1 .0 .now, s .1 .1 .1 .1 .1 .1 .1 .1 .0 .now))
+filter-levels-one κs a x y s t p q =
+    let e = same p q in
+    (ap (λ (w : ℕ × List ℕ × List ℕ × List ℕ). w .0) e, ap (λ (w : ℕ × List ℕ × List ℕ × List ℕ). (w .1, w .2, w .3)) e)

@@ -7,11 +7,11 @@ use mathlib.Core.Path.{_≡_, refl}
 use mathlib.Core.Bool.{Bool, true, false}
 use mathlib.Core.List.{List}
 use lib.Dec.{eqb}
-use lib.ListN.{getD}
+use lib.ListN.{length, getD}
 use Rattle.lists.specs.Lists.{pick}
 use Rattle.macroblock.specs.Reply.{done}
-use Rattle.loop_filter.specs.Picture.{levelOf}
-use Rattle.loop_filter.specs.Answers.{Planes, told, answered, filteredPlanes, levelsAnswer}
+use Rattle.loop_filter.specs.Picture.{levelOf, levelsOk}
+use Rattle.loop_filter.specs.Answers.{refusalOf, Planes, told, answered, filteredPlanes, levelsAnswer}
 use Rattle.filter_laws.proofs.Planes.{AwayFromAll, luma-keeps, chroma-keeps, simple-chroma}
 
 picked : (f : Planes → List ℕ) (j : ℕ) (t : Bool) (a b : Planes) → getD (f a) j 0 ≡ getD (f b) j 0 → getD (f (pick t a b)) j 0 ≡ getD (f b) j 0
@@ -23,20 +23,26 @@ whole f true a b e = e
 whole f false a b e = refl
 
 module _ (cols rows kind sharp : ℕ) (levels inner y u v : List ℕ) where
+  abbrev number : ℕ
+  number = refusalOf cols rows (length y) (length u) (length v) (length inner) (length levels) (levelsOk levels) sharp kind
+
+  abbrev after : Planes
+  after = filteredPlanes (eqb kind 1) sharp (levelOf false 0 levels) inner cols rows (y, u, v)
+
   pub luma-kept : (j : ℕ) → AwayFromAll (eqb kind 1) sharp (levelOf false 0 levels) inner cols rows 16 j
       → getD (levelsAnswer cols rows kind sharp levels inner y u v .1) j 0 ≡ getD y j 0
   unfolding levelsAnswer answered filteredPlanes
-  luma-kept j h = picked (λ p. p .0) j _ _ (y, u, v) (luma-keeps (eqb kind 1) sharp (levelOf false 0 levels) inner cols rows j h y)
+  luma-kept j h = picked (λ p. p .0) j (eqb number done) after (y, u, v) (luma-keeps (eqb kind 1) sharp (levelOf false 0 levels) inner cols rows j h y)
 
   pub u-kept : (j : ℕ) → AwayFromAll (eqb kind 1) sharp (levelOf false 0 levels) inner cols rows 8 j
       → getD (levelsAnswer cols rows kind sharp levels inner y u v .2) j 0 ≡ getD u j 0
   unfolding levelsAnswer answered filteredPlanes
-  u-kept j h = picked (λ p. p .1) j _ _ (y, u, v) (chroma-keeps (eqb kind 1) sharp (levelOf false 0 levels) inner cols rows j h u)
+  u-kept j h = picked (λ p. p .1) j (eqb number done) after (y, u, v) (chroma-keeps (eqb kind 1) sharp (levelOf false 0 levels) inner cols rows j h u)
 
   pub v-kept : (j : ℕ) → AwayFromAll (eqb kind 1) sharp (levelOf false 0 levels) inner cols rows 8 j
       → getD (levelsAnswer cols rows kind sharp levels inner y u v .3) j 0 ≡ getD v j 0
   unfolding levelsAnswer answered filteredPlanes
-  v-kept j h = picked (λ p. p .2) j _ _ (y, u, v) (chroma-keeps (eqb kind 1) sharp (levelOf false 0 levels) inner cols rows j h v)
+  v-kept j h = picked (λ p. p .2) j (eqb number done) after (y, u, v) (chroma-keeps (eqb kind 1) sharp (levelOf false 0 levels) inner cols rows j h v)
 
   pub refused-kept : (n : ℕ) → n ≡ levelsAnswer cols rows kind sharp levels inner y u v .0 → eqb n done ≡ false
       → levelsAnswer cols rows kind sharp levels inner y u v ≡ told n (y, u, v)
@@ -46,8 +52,8 @@ module _ (cols rows kind sharp : ℕ) (levels inner y u v : List ℕ) where
 module _ (cols rows sharp : ℕ) (levels inner y u v : List ℕ) where
   pub simple-u : levelsAnswer cols rows 1 sharp levels inner y u v .2 ≡ u
   unfolding levelsAnswer answered filteredPlanes
-  simple-u = whole (λ p. p .1) _ _ (y, u, v) (simple-chroma sharp (levelOf false 0 levels) inner cols rows u)
+  simple-u = whole (λ p. p .1) (eqb (number cols rows 1 sharp levels inner y u v) done) (after cols rows 1 sharp levels inner y u v) (y, u, v) (simple-chroma sharp (levelOf false 0 levels) inner cols rows u)
 
   pub simple-v : levelsAnswer cols rows 1 sharp levels inner y u v .3 ≡ v
   unfolding levelsAnswer answered filteredPlanes
-  simple-v = whole (λ p. p .2) _ _ (y, u, v) (simple-chroma sharp (levelOf false 0 levels) inner cols rows v)
+  simple-v = whole (λ p. p .2) (eqb (number cols rows 1 sharp levels inner y u v) done) (after cols rows 1 sharp levels inner y u v) (y, u, v) (simple-chroma sharp (levelOf false 0 levels) inner cols rows v)

@@ -1,2 +1,3 @@
 -- Laws of the limits.
 pub mod Small
+pub mod OneAnswer

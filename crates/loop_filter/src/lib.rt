@@ -87,7 +87,8 @@ fn filter_macroblock(
     }
     let rule = filter_limits::rule_of(simple, level, sharp);
     luma_edges(y, cols, r, c, inner, rule);
-    if simple {
+    let luma_only = simple;
+    if luma_only {
         return;
     }
     chroma_edges(u, v, cols, r, c, inner, rule);

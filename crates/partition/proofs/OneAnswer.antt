@@ -1,17 +1,13 @@
 -- Each promise of `partition` admits one answer only, and leaves one thing only in what was lent. Assumes nothing.
-use mathlib.Core.Path.{_≡_, sym, ap, _∙_}
 use mathlib.Core.List.{List}
 use Prim.Native.Nat.{ℕ}
 use lib.IntN.{ℤ}
 use Rattle.lists.proofs.Answer.{OneAnswerIn}
+use Rattle.lists.proofs.Pairs.{same-pair}
 use Rattle.partition.proofs.bool_start.Reads as bool-start
 use Rattle.partition.proofs.bool_start.Kinds as bool-start-k
 use Rattle.partition.proofs.tokens.Reads as tokens
 use Rattle.partition.proofs.tokens.Kinds as tokens-k
-
-module _ {A B : Type 0} where
-  pub same-pair : {x y : A} {s t : B} {z : A × B} → (x, s) ≡ z → (y, t) ≡ z → (x ≡ y) × (s ≡ t)
-  same-pair p q = let e = p ∙ sym q in (ap (λ (w : A × B). w .0) e, ap (λ (w : A × B). w .1) e)
 
 pub bool-start-one : OneAnswerIn 2 bool-start-k.ps bool-start-k.r bool-start.Post (λ κs s. s .1 .0 .now)
 bool-start-one κs a x y s t = same-pair

@@ -1,8 +1,9 @@
 -- Each promise of the C interface admits one answer only, and leaves one thing only in what was lent. Assumes nothing.
 use mathlib.Core.List.{List}
+use mathlib.Core.Path.{ap}
 use Prim.Native.Nat.{ℕ}
 use lib.IntN.{ℤ}
-use Rattle.lists.proofs.Answer.{OneAnswerIn}
+use Rattle.lists.proofs.Answer.{OneAnswerIn, same}
 use Rattle.lists.proofs.Pairs.{same-pair}
 use Rattle.zopredil.proofs.stills.zopredil_still.Reads as still
 use Rattle.zopredil.proofs.stills.zopredil_still.Kinds as still-k
@@ -38,6 +39,14 @@ use Rattle.zopredil.proofs.neighbours.zopredil_right_pixels.Reads as ri
 use Rattle.zopredil.proofs.neighbours.zopredil_right_pixels.Kinds as right-pixels-k
 use Rattle.zopredil.proofs.macroblocks.zopredil_shelf.Reads as shelf
 use Rattle.zopredil.proofs.macroblocks.zopredil_shelf.Kinds as shelf-k
+use Rattle.zopredil.proofs.partitions.zopredil_bool_start.Reads as bool-start
+use Rattle.zopredil.proofs.partitions.zopredil_bool_start.Kinds as bool-start-k
+use Rattle.zopredil.proofs.partitions.zopredil_tokens.Reads as tokens
+use Rattle.zopredil.proofs.partitions.zopredil_tokens.Kinds as tokens-k
+use Rattle.zopredil.proofs.filter.zopredil_filter.Reads as filter
+use Rattle.zopredil.proofs.filter.zopredil_filter.Kinds as filter-k
+use Rattle.zopredil.proofs.filter.zopredil_filter_levels.Reads as filter-levels
+use Rattle.zopredil.proofs.filter.zopredil_filter_levels.Kinds as filter-levels-k
 
 pub y1-factors-one : OneAnswerIn 1 y1-factors-k.ps y1-factors-k.r y1-factors.Post (λ κs s. s .1 .1 .0 .now)
 y1-factors-one κs a x y s t = same-pair
@@ -99,3 +108,22 @@ still-alone-one κs a x y s t = same-pair
 pub shelf-one : OneAnswerIn 7 shelf-k.ps shelf-k.r shelf.Post {A = List ℕ × (List ℕ × List ℕ)}
     (λ κs s. (s .1 .1 .1 .1 .0 .now, (s .1 .1 .1 .1 .1 .0 .now, s .1 .1 .1 .1 .1 .1 .0 .now)))
 shelf-one κs a x y s t = same-pair
+
+pub bool-start-one : OneAnswerIn 2 bool-start-k.ps bool-start-k.r bool-start.Post (λ κs s. s .1 .0 .now)
+bool-start-one κs a x y s t = same-pair
+
+pub tokens-one : OneAnswerIn 6 tokens-k.ps tokens-k.r tokens.Post {A = List ℕ × List ℕ × List ℕ × List ℤ}
+    (λ κs s. (s .1 .1 .1 .0 .now, s .1 .1 .1 .1 .0 .now, s .1 .1 .1 .1 .1 .0 .now, s .1 .1 .1 .1 .1 .1 .0 .now))
+tokens-one κs a x y s t = same-pair
+
+pub filter-one : OneAnswerIn 4 filter-k.ps filter-k.r filter.Post {A = List ℕ × List ℕ × List ℕ}
+    (λ κs s. (s .1 .1 .1 .1 .1 .1 .0 .now, s .1 .1 .1 .1 .1 .1 .1 .0 .now, s .1 .1 .1 .1 .1 .1 .1 .1 .0 .now))
+filter-one κs a x y s t p q =
+    let e = same p q in
+    (ap (λ (w : ℕ × List ℕ × List ℕ × List ℕ). w .0) e, ap (λ (w : ℕ × List ℕ × List ℕ × List ℕ). (w .1, w .2, w .3)) e)
+
+pub filter-levels-one : OneAnswerIn 5 filter-levels-k.ps filter-levels-k.r filter-levels.Post {A = List ℕ × List ℕ × List ℕ}
+    (λ κs s. (s .1 .1 .1 .1 .1 .1 .0 .now, s .1 .1 .1 .1 .1 .1 .1 .0 .now, s .1 .1 .1 .1 .1 .1 .1 .1 .0 .now))
+filter-levels-one κs a x y s t p q =
+    let e = same p q in
+    (ap (λ (w : ℕ × List ℕ × List ℕ × List ℕ). w .0) e, ap (λ (w : ℕ × List ℕ × List ℕ × List ℕ). (w .1, w .2, w .3)) e)

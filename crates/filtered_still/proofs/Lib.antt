@@ -1,0 +1,3 @@
+-- Laws of a still that is drawn, then filtered.
+pub mod Two
+pub mod OneAnswer

@@ -5,6 +5,7 @@ use Prim.Native.Nat.{ℕ}
 use lib.IntN.{ℤ}
 use Rattle.lists.proofs.Answer.{OneAnswerIn, same}
 use Rattle.slices.proofs.Pairs.{same-pair}
+use Rattle.partition.proofs.OneAnswer.{same-five}
 use Rattle.zopredil.proofs.zopredil_still.Reads as still
 use Rattle.zopredil.proofs.zopredil_still.Kinds as still-k
 use Rattle.zopredil.proofs.zopredil_still_alone.Reads as still-alone
@@ -39,6 +40,10 @@ use Rattle.zopredil.proofs.zopredil_right_pixels.Reads as right-pixels
 use Rattle.zopredil.proofs.zopredil_right_pixels.Kinds as right-pixels-k
 use Rattle.zopredil.proofs.zopredil_shelf.Reads as shelf
 use Rattle.zopredil.proofs.zopredil_shelf.Kinds as shelf-k
+use Rattle.zopredil.proofs.zopredil_bool_start.Reads as bool-start
+use Rattle.zopredil.proofs.zopredil_bool_start.Kinds as bool-start-k
+use Rattle.zopredil.proofs.zopredil_tokens.Reads as tokens
+use Rattle.zopredil.proofs.zopredil_tokens.Kinds as tokens-k
 
 pub y1-factors-one : OneAnswerIn 1 y1-factors-k.ps y1-factors-k.r y1-factors.Post (λ κs s. s .1 .1 .0 .now)
 y1-factors-one κs a x y s t = same-pair
@@ -102,3 +107,10 @@ still-alone-one κs a x y s t = same-pair
 pub shelf-one : OneAnswerIn 7 shelf-k.ps shelf-k.r shelf.Post {A = List ℕ × (List ℕ × List ℕ)}
     (λ κs s. (s .1 .1 .1 .1 .0 .now, (s .1 .1 .1 .1 .1 .0 .now, s .1 .1 .1 .1 .1 .1 .0 .now)))
 shelf-one κs a x y s t = same-pair
+
+pub bool-start-one : OneAnswerIn 2 bool-start-k.ps bool-start-k.r bool-start.Post (λ κs s. s .1 .0 .now)
+bool-start-one κs a x y s t = same-pair
+
+pub tokens-one : OneAnswerIn 6 tokens-k.ps tokens-k.r tokens.Post {A = List ℕ × List ℕ × List ℕ × List ℤ}
+    (λ κs s. (s .1 .1 .1 .0 .now, s .1 .1 .1 .1 .0 .now, s .1 .1 .1 .1 .1 .0 .now, s .1 .1 .1 .1 .1 .1 .0 .now))
+tokens-one κs a x y s t = same-five

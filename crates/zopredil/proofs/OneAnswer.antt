@@ -5,6 +5,7 @@ use Prim.Native.Nat.{ℕ}
 use lib.IntN.{ℤ}
 use Rattle.lists.proofs.Answer.{OneAnswerIn, same}
 use Rattle.lists.proofs.Pairs.{same-pair}
+use Rattle.partition.proofs.OneAnswer.{same-five}
 use Rattle.zopredil.proofs.stills.zopredil_still.Reads as still
 use Rattle.zopredil.proofs.stills.zopredil_still.Kinds as still-k
 use Rattle.zopredil.proofs.stills.zopredil_still_alone.Reads as still-alone
@@ -114,7 +115,7 @@ bool-start-one κs a x y s t = same-pair
 
 pub tokens-one : OneAnswerIn 6 tokens-k.ps tokens-k.r tokens.Post {A = List ℕ × List ℕ × List ℕ × List ℤ}
     (λ κs s. (s .1 .1 .1 .0 .now, s .1 .1 .1 .1 .0 .now, s .1 .1 .1 .1 .1 .0 .now, s .1 .1 .1 .1 .1 .1 .0 .now))
-tokens-one κs a x y s t = same-pair
+tokens-one κs a x y s t = same-five
 
 pub filter-one : OneAnswerIn 4 filter-k.ps filter-k.r filter.Post {A = List ℕ × List ℕ × List ℕ}
     (λ κs s. (s .1 .1 .1 .1 .1 .1 .0 .now, s .1 .1 .1 .1 .1 .1 .1 .0 .now, s .1 .1 .1 .1 .1 .1 .1 .1 .0 .now))

@@ -1,0 +1,1 @@
+// Nothing to run: proofs/ has the theorems about the tokens of a macroblock.

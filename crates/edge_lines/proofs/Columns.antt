@@ -1,7 +1,7 @@
 -- Columns as lines: sixteen rows of eight, turned, are eight lines of a window. Once over the lanes (a to a + n - 1: all of them for Y, 0 to 7 for U, 8 to 15
 -- for V) and over how many blocks of eight lines the window has. Assumes nothing.
 --     eights-tall, pair-u, pair-v     the rows as they were taken
---     built-more                      a window with eight lines more
+--     built-one                       a window of eight lines
 --     laid-more                       a plane with eight lines of the window more put back
 --     laid-is                         once all are put back, it is the plane that the window agrees with
 use Prim.Native.Nat.{ℕ, _+_, _-_, _*_, _<_, _≤_}

@@ -115,7 +115,7 @@ fn coefficient(
 
 // The tokens of a block from position `first` on, of whose first one node 0 is passed. `base` is where the probabilities of the
 // block's plane start, `from` where those of its first token do; `zeros`: whether a zero counts for the block's flag.
-pub fn decode_block(
+pub(crate) fn decode_block(
     src: &[u8],
     probs: &[u8],
     base: usize,

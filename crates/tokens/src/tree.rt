@@ -167,7 +167,7 @@ fn large(src: &[u8], probs: &[u8], row: usize, d: BoolDecoder) -> Token
 }
 
 // Node 2.
-pub fn nonzero(src: &[u8], probs: &[u8], row: usize, d: BoolDecoder) -> Token
+pub(crate) fn nonzero(src: &[u8], probs: &[u8], row: usize, d: BoolDecoder) -> Token
     requires { ⌜ row + 11 ≤ length (now probs) ⌝ }
     ensures { λ r. ⌜ Walks (now (src .entry)) (treed (now (probs .entry)) row nonzeroTree) 26 d r ⌝ }
 {

@@ -13,16 +13,11 @@ module _ {A B : Type 0} where
   pub same-pair : {x y : A} {s t : B} {z : A × B} → (x, s) ≡ z → (y, t) ≡ z → (x ≡ y) × (s ≡ t)
   same-pair p q = let e = p ∙ sym q in (ap (λ (w : A × B). w .0) e, ap (λ (w : A × B). w .1) e)
 
-pub same-five : {x y : ℕ} {a b c a' b' c' : List ℕ} {d d' : List ℤ} {z : ℕ × List ℕ × List ℕ × List ℕ × List ℤ}
-    → (x, a, b, c, d) ≡ z → (y, a', b', c', d') ≡ z → (x ≡ y) × ((a, b, c, d) ≡ (a', b', c', d'))
-same-five p q =
-    let e = p ∙ sym q in
-    (ap (λ (w : ℕ × List ℕ × List ℕ × List ℕ × List ℤ). w .0) e,
-    ap (λ (w : ℕ × List ℕ × List ℕ × List ℕ × List ℤ). (w .1, w .2, w .3, w .4)) e)
-
 pub bool-start-one : OneAnswerIn 2 bool-start-k.ps bool-start-k.r bool-start.Post (λ κs s. s .1 .0 .now)
 bool-start-one κs a x y s t = same-pair
 
 pub tokens-one : OneAnswerIn 6 tokens-k.ps tokens-k.r tokens.Post {A = List ℕ × List ℕ × List ℕ × List ℤ}
     (λ κs s. (s .1 .1 .1 .0 .now, s .1 .1 .1 .1 .0 .now, s .1 .1 .1 .1 .1 .0 .now, s .1 .1 .1 .1 .1 .1 .0 .now))
-tokens-one κs a x y s t = same-five
+tokens-one κs a x y s t p q =
+    let e = p ∙ sym q in
+    (ap (λ (w : ℕ × List ℕ × List ℕ × List ℕ × List ℤ). w .0) e, ap (λ (w : ℕ × List ℕ × List ℕ × List ℕ × List ℤ). (w .1, w .2, w .3, w .4)) e)

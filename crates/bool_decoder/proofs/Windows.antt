@@ -205,21 +205,27 @@ module _ (src : List ℕ) (bytes : (i : ℕ) → getD src i 0 < 256) where
       go true e =
           let v : splitOf (c .range) p ≤ c .value = leb-true (splitOf (c .range) p) (c .value) e in
           let x = turns 7 (upper p c) (omega arith) (omega arith) in
-          let y : c .value * 256 + shownAt src (c .place) - splitOf (c .range) p * 256 ≡ (c .value - splitOf (c .range) p) * 256 + shownAt src (c .place) = omega arith in
-          (ap (λ (t : Bool). pick t
-          (told true (normal 7 src (window (c .value * 256 + shownAt src (c .place) - splitOf (c .range) p * 256) (c .range - splitOf (c .range) p) (c .place % 8) (loaded c))))
-          (told false (normal 7 src (window (c .value * 256 + shownAt src (c .place)) (splitOf (c .range) p) (c .place % 8) (loaded c)))))
-          (le-leb (splitOf (c .range) p * 256) (c .value * 256 + shownAt src (c .place)) (omega arith))
-          ∙ ap (λ (i : ℕ). told true (normal 7 src (window i (c .range - splitOf (c .range) p) (c .place % 8) (loaded c)))) y
-          ∙ ap (told true) (x .0), x .1, x .2)
+          let y : c .value * 256 + shownAt src (c .place) - splitOf (c .range) p * 256 ≡ (c .value - splitOf (c .range) p) * 256 + shownAt src (c .place) = omega arith in (
+            ap (λ (t : Bool). pick t
+                (told true (normal 7 src (window (c .value * 256 + shownAt src (c .place) - splitOf (c .range) p * 256) (c .range - splitOf (c .range) p) (c .place % 8) (loaded c))))
+                (told false (normal 7 src (window (c .value * 256 + shownAt src (c .place)) (splitOf (c .range) p) (c .place % 8) (loaded c)))))
+                (le-leb (splitOf (c .range) p * 256) (c .value * 256 + shownAt src (c .place)) (omega arith))
+                ∙ ap (λ (i : ℕ). told true (normal 7 src (window i (c .range - splitOf (c .range) p) (c .place % 8) (loaded c)))) y
+                ∙ ap (told true) (x .0),
+            x .1,
+            x .2,
+          )
       go false e =
           let v : c .value < splitOf (c .range) p = leb-false (splitOf (c .range) p) (c .value) e in
-          let x = turns 7 (lower p c) v (omega (arith, below)) in
-          (ap (λ (t : Bool). pick t
-          (told true (normal 7 src (window (c .value * 256 + shownAt src (c .place) - splitOf (c .range) p * 256) (c .range - splitOf (c .range) p) (c .place % 8) (loaded c))))
-          (told false (normal 7 src (window (c .value * 256 + shownAt src (c .place)) (splitOf (c .range) p) (c .place % 8) (loaded c)))))
-          (lt-leb (splitOf (c .range) p * 256) (c .value * 256 + shownAt src (c .place)) (omega arith))
-          ∙ ap (told false) (x .0), x .1, x .2)
+          let x = turns 7 (lower p c) v (omega (arith, below)) in (
+            ap (λ (t : Bool). pick t
+                (told true (normal 7 src (window (c .value * 256 + shownAt src (c .place) - splitOf (c .range) p * 256) (c .range - splitOf (c .range) p) (c .place % 8) (loaded c))))
+                (told false (normal 7 src (window (c .value * 256 + shownAt src (c .place)) (splitOf (c .range) p) (c .place % 8) (loaded c)))))
+                (lt-leb (splitOf (c .range) p * 256) (c .value * 256 + shownAt src (c .place)) (omega arith))
+                ∙ ap (told false) (x .0),
+            x .1,
+            x .2,
+          )
 
 opened-below : (src : List ℕ) → getD src 0 0 < 255 → opened src .value < opened src .range
 unfolding opened

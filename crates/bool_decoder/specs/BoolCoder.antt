@@ -82,7 +82,6 @@ module _ {A : Type 0} where
 module _ {A B : Type 0} where
   -- first m, then what its value gives
   infixr 5 _then_
-
   unfoldable pub _then_ : Reads A → (A → Reads B) → Reads B
   done a then f = f a
   ask p k then f = ask p (λ b. k b then f)

@@ -17,7 +17,6 @@ ghost use lib.ListN.{length, getD};
 ghost use Rattle.lists.specs.Lists.{pick};
 ghost use Rattle.bool_decoder.specs.Held.{Ready, IsOne, After, Takes, bits};
 ghost use Rattle.bool_decoder.specs.Inside.{Shift, Split, Renews, Loads, fourOf};
-
 pub use state::BoolState;
 pub use state::begin;
 pub use state::resume;

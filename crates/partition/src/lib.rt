@@ -118,7 +118,13 @@ fn put_coeffs(to: &mut [i16], coeffs: [i16; 400])
 }
 
 // The answer in what was lent: after a refusal the coefficients alone.
-fn put_all(m: Macroblock, above: &mut [u8], left: &mut [u8], state: &mut [u64], coeffs: &mut [i16]) -> u32
+fn put_all(
+    m: Macroblock,
+    above: &mut [u8],
+    left: &mut [u8],
+    state: &mut [u64],
+    coeffs: &mut [i16],
+) -> u32
     requires { ⌜ (length (now above) ≡ 9) × (length (now left) ≡ 9) × (length (now state) ≡ 4) × (length (now coeffs) ≡ 400) ⌝ }
     ensures { λ r. ⌜ (r, now (above .exit), now (left .exit), now (state .exit), now (coeffs .exit))
         ≡ putAnswer m (now (above .entry)) (now (left .entry)) (now (state .entry)) ⌝ }

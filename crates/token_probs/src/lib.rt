@@ -5,7 +5,6 @@ ghost use mathlib.Core.Path.{_≡_};
 ghost use mathlib.Core.Bool.{_&&_};
 ghost use lib.Dec.{ltb};
 ghost use Rattle.token_probs.specs.Answers.{noZero};
-
 pub use defaults::default_prob;
 pub use defaults::default_probs;
 

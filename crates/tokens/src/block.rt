@@ -90,7 +90,15 @@ fn either(a: bool, b: bool) -> bool
 }
 
 // A coefficient that is not 0: its size, its sign, and its place in the block.
-fn coefficient(src: &[u8], probs: &[u8], row: usize, at: usize, i: usize, d: BoolDecoder, out: &mut [i16; 400]) -> Token
+fn coefficient(
+    src: &[u8],
+    probs: &[u8],
+    row: usize,
+    at: usize,
+    i: usize,
+    d: BoolDecoder,
+    out: &mut [i16; 400],
+) -> Token
     requires { ⌜ (row + 11 ≤ length (now probs)) × (at ≤ 384) × (i < 16) ⌝ }
     ensures { λ r. ⌜ Puts (now (src .entry)) (now (probs .entry)) row at i (now (out .entry)) d (now (out .exit)) r ⌝ }
 {

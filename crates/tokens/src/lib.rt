@@ -15,7 +15,6 @@ ghost use Rattle.tokens.specs.Walks.{Threads, threadOf};
 ghost use Rattle.tokens.specs.Answers.{blank, refused, answered, walked, decoded};
 ghost use Rattle.bool_decoder.specs.State.{standsOf};
 ghost use mathlib.Core.Bool.{true};
-
 use block::band;
 use block::decode_block;
 use bool_decoder::BoolDecoder;
@@ -30,8 +29,11 @@ use bool_decoder::stands;
 
 // The replies of a macroblock's tokens.
 pub const DONE: u32 = 0;
+
 pub const WRONG_LENGTH: u32 = 1;
+
 pub const PAST_END: u32 = 9;
+
 pub const NO_PROBABILITY: u32 = 10;
 
 // The answer: the coefficients of the 25 blocks in raster order, the contexts, the decoder's state.
@@ -129,11 +131,7 @@ fn first_of(n: usize, y2: bool) -> usize
     if n == 0 {
         return 0;
     }
-    if n < 17 {
-        if y2 { 1 } else { 0 }
-    } else {
-        0
-    }
+    if n < 17 { if y2 { 1 } else { 0 } } else { 0 }
 }
 
 // Eleven probabilities for each neighbour that has coefficients.
@@ -171,7 +169,17 @@ fn one_block(
     let e = ready(src, d);
     let p = probs[row];
     if is_one(p, e) {
-        let b = decode_block(src, probs, base, row, 16 * n, zeros, first, after_one(p, e), out);
+        let b = decode_block(
+            src,
+            probs,
+            base,
+            row,
+            16 * n,
+            zeros,
+            first,
+            after_one(p, e),
+            out,
+        );
         above[a] = b.some;
         left[l] = b.some;
         b.next

@@ -51,9 +51,11 @@ loop-less c = omega (arith, c .before .before .before .before .before .before .b
 loop-again : tie.Need-loop-again Inv-loop μ-loop
 loop-again c =
     let l : c .before .before .before .before .before .before .before .before .before .before .before .before .before .before .before .before .loop .i + 1 < 16 = omega (arith, c .before .before .before .before .before .before .if2 .left, c .before .before .before .before .before .before .before .before .before .before .before .before .before .before .before .loop-test .taken) in
-    let ro : c .before .before .before .before .before .before .before .before .before .before .before .before .before .before .before .before .before .before .before .args .base + c .before .before .before .before .before .band .result + c .before .before .before .before .class-row .result ≡ rowOf (c .before .before .before .before .before .before .before .before .before .before .before .before .before .before .before .before .before .before .before .args .base) (c .before .before .before .before .before .before .before .before .before .before .before .before .before .before .before .before .loop .i + 1) (classOf (c .before .before .before .before .before .before .before .before .coefficient .result .size)) = omega (arith, c .before .before .before .before .before .band .ensures .is l, c .before .before .before .before .class-row .ensures .0) in
-    (omega arith, omega (arith, c .before .before .before .before .before .band .ensures .most, c .before .before .before .before .class-row .ensures .1, c .before .before .before .before .before .before .before .before .before .before .before .before .before .before .before .before .before .before .before .pre .1),
-    λ c₀ h. one-on (c .before .before .before .before .before .before .before .before .before .before .before .before .before .before .before .before .before .before .before .args .src .now) (c .before .before .before .before .before .before .before .before .before .before .before .before .before .before .before .before .before .before .before .args .probs .now) (c .before .before .before .before .before .before .before .before .before .before .before .before .before .before .before .before .before .before .before .args .base) (c .before .before .before .before .before .before .before .before .before .before .before .before .before .before .before .before .before .before .before .args .at) (c .before .before .before .before .before .before .before .before .before .before .before .before .before .before .before .before .before .before .before .args .zeros) (c .before .before .before .before .before .before .before .before .before .before .before .before .before .before .before .before .before .before .before .args .first) (c .before .before .before .before .before .before .before .before .before .before .before .before .before .before .before .before .before .before .before .args .from) _ c₀ (c .before .before .before .before .before .before .before .before .before .before .before .before .before .before .before .before .loop .i) (c .before .before .before .before .before .before .before .before .before .before .before .before .before .before .before .before .loop .row) _ (c .before .before .before .before .before .before .before .before .before .before .before .before .before .before .before .before .loop .some) (c .before .before .before .before .before .before .before .before .before .before .before .before .before .before .before .before .loop .e) (c .before .before .before .before .before .before .before .before .before .before .before .before .before .before .ready .result) (c .before .before .before .before .before .before .before .before .before .before .before .before .before .before .before .loop-test .taken) (c .before .before .before .before .before .before .before .before .before .before .before .before .before .before .ready .ensures) (c .before .before .before .before .before .before .before .before .before .before .before .before .is-one .result) (c .before .before .before .before .before .before .before .before .before .before .before .before .is-one .ensures) (c .before .before .before .before .before .before .before .before .before .before .before .before .before .before .before .before .loop .inv .2 c₀ h) (c .before .before .before .before .before .before .before .before .before .before .after-one .result) _ (c .before .before .before .before .before .before .before .before .coefficient .result) (c .before .before .before .before .before .before .before .before .before .before .before .if1 .taken) (c .before .before .before .before .before .before .before .before .before .before .after-one .ensures) (c .before .before .before .before .before .before .before .before .coefficient .ensures) (c .before .before .before .before .before .before .before .before .before .before .before .before .before .before .before .before .before .before .before .args .base + c .before .before .before .before .before .band .result + c .before .before .before .before .class-row .result) ro l (c .before .before .is-one2 .result) (c .before .before .is-one2 .ensures) (c .after-one2 .result) (c .before .if3 .taken) (c .after-one2 .ensures))
+    let ro : c .before .before .before .before .before .before .before .before .before .before .before .before .before .before .before .before .before .before .before .args .base + c .before .before .before .before .before .band .result + c .before .before .before .before .class-row .result ≡ rowOf (c .before .before .before .before .before .before .before .before .before .before .before .before .before .before .before .before .before .before .before .args .base) (c .before .before .before .before .before .before .before .before .before .before .before .before .before .before .before .before .loop .i + 1) (classOf (c .before .before .before .before .before .before .before .before .coefficient .result .size)) = omega (arith, c .before .before .before .before .before .band .ensures .is l, c .before .before .before .before .class-row .ensures .0) in (
+      omega arith,
+      omega (arith, c .before .before .before .before .before .band .ensures .most, c .before .before .before .before .class-row .ensures .1, c .before .before .before .before .before .before .before .before .before .before .before .before .before .before .before .before .before .before .before .pre .1),
+      λ c₀ h. one-on (c .before .before .before .before .before .before .before .before .before .before .before .before .before .before .before .before .before .before .before .args .src .now) (c .before .before .before .before .before .before .before .before .before .before .before .before .before .before .before .before .before .before .before .args .probs .now) (c .before .before .before .before .before .before .before .before .before .before .before .before .before .before .before .before .before .before .before .args .base) (c .before .before .before .before .before .before .before .before .before .before .before .before .before .before .before .before .before .before .before .args .at) (c .before .before .before .before .before .before .before .before .before .before .before .before .before .before .before .before .before .before .before .args .zeros) (c .before .before .before .before .before .before .before .before .before .before .before .before .before .before .before .before .before .before .before .args .first) (c .before .before .before .before .before .before .before .before .before .before .before .before .before .before .before .before .before .before .before .args .from) _ c₀ (c .before .before .before .before .before .before .before .before .before .before .before .before .before .before .before .before .loop .i) (c .before .before .before .before .before .before .before .before .before .before .before .before .before .before .before .before .loop .row) _ (c .before .before .before .before .before .before .before .before .before .before .before .before .before .before .before .before .loop .some) (c .before .before .before .before .before .before .before .before .before .before .before .before .before .before .before .before .loop .e) (c .before .before .before .before .before .before .before .before .before .before .before .before .before .before .ready .result) (c .before .before .before .before .before .before .before .before .before .before .before .before .before .before .before .loop-test .taken) (c .before .before .before .before .before .before .before .before .before .before .before .before .before .before .ready .ensures) (c .before .before .before .before .before .before .before .before .before .before .before .before .is-one .result) (c .before .before .before .before .before .before .before .before .before .before .before .before .is-one .ensures) (c .before .before .before .before .before .before .before .before .before .before .before .before .before .before .before .before .loop .inv .2 c₀ h) (c .before .before .before .before .before .before .before .before .before .before .after-one .result) _ (c .before .before .before .before .before .before .before .before .coefficient .result) (c .before .before .before .before .before .before .before .before .before .before .before .if1 .taken) (c .before .before .before .before .before .before .before .before .before .before .after-one .ensures) (c .before .before .before .before .before .before .before .before .coefficient .ensures) (c .before .before .before .before .before .before .before .before .before .before .before .before .before .before .before .before .before .before .before .args .base + c .before .before .before .before .before .band .result + c .before .before .before .before .class-row .result) ro l (c .before .before .is-one2 .result) (c .before .before .is-one2 .ensures) (c .after-one2 .result) (c .before .if3 .taken) (c .after-one2 .ensures),
+    )
 
 returns-2 : tie.Need-returns-2 Inv-loop μ-loop
 returns-2 c =
@@ -71,9 +73,11 @@ loop-less-2 : tie.Need-loop-less-2 Inv-loop μ-loop
 loop-less-2 c = omega (arith, c .before .before .before .before .before .before .before .loop-test .taken)
 
 loop-again-2 : tie.Need-loop-again-2 Inv-loop μ-loop
-loop-again-2 c =
-    (omega (arith, c .before .before .before .before .before .before .before .loop-test .taken), omega (arith, c .before .band2 .ensures .most, c .before .before .before .before .before .before .before .before .before .before .before .pre .1),
-    λ c₀ h. rw (c .either .ensures) (zero-on (c .before .before .before .before .before .before .before .before .before .before .before .args .src .now) (c .before .before .before .before .before .before .before .before .before .before .before .args .probs .now) (c .before .before .before .before .before .before .before .before .before .before .before .args .base) (c .before .before .before .before .before .before .before .before .before .before .before .args .at) (c .before .before .before .before .before .before .before .before .before .before .before .args .zeros) (c .before .before .before .before .before .before .before .before .before .before .before .args .first) (c .before .before .before .before .before .before .before .before .before .before .before .args .from) _ c₀ (c .before .before .before .before .before .before .before .before .loop .i) (c .before .before .before .before .before .before .before .before .loop .row) _ (c .before .before .before .before .before .before .before .before .loop .some) (c .before .before .before .before .before .before .before .before .loop .e) (c .before .before .before .before .before .before .ready .result) (c .before .before .before .before .before .before .before .loop-test .taken) (c .before .before .before .before .before .before .ready .ensures) (c .before .before .before .before .is-one .result) (c .before .before .before .before .is-one .ensures) (c .before .before .before .before .before .before .before .before .loop .inv .2 c₀ h) (c .before .before .after-zero2 .result) (c .before .band2 .result) (c .before .before .before .if1 .left) (c .before .before .after-zero2 .ensures) (c .before .band2 .ensures)))
+loop-again-2 c = (
+  omega (arith, c .before .before .before .before .before .before .before .loop-test .taken),
+  omega (arith, c .before .band2 .ensures .most, c .before .before .before .before .before .before .before .before .before .before .before .pre .1),
+  λ c₀ h. rw (c .either .ensures) (zero-on (c .before .before .before .before .before .before .before .before .before .before .before .args .src .now) (c .before .before .before .before .before .before .before .before .before .before .before .args .probs .now) (c .before .before .before .before .before .before .before .before .before .before .before .args .base) (c .before .before .before .before .before .before .before .before .before .before .before .args .at) (c .before .before .before .before .before .before .before .before .before .before .before .args .zeros) (c .before .before .before .before .before .before .before .before .before .before .before .args .first) (c .before .before .before .before .before .before .before .before .before .before .before .args .from) _ c₀ (c .before .before .before .before .before .before .before .before .loop .i) (c .before .before .before .before .before .before .before .before .loop .row) _ (c .before .before .before .before .before .before .before .before .loop .some) (c .before .before .before .before .before .before .before .before .loop .e) (c .before .before .before .before .before .before .ready .result) (c .before .before .before .before .before .before .before .loop-test .taken) (c .before .before .before .before .before .before .ready .ensures) (c .before .before .before .before .is-one .result) (c .before .before .before .before .is-one .ensures) (c .before .before .before .before .before .before .before .before .loop .inv .2 c₀ h) (c .before .before .after-zero2 .result) (c .before .band2 .result) (c .before .before .before .if1 .left) (c .before .before .after-zero2 .ensures) (c .before .band2 .ensures)),
+)
 
 returns-3 : tie.Need-returns-3 Inv-loop μ-loop
 returns-3 c = record { is = λ c₀ h. finished (c .before .before .before .before .args .src .now) (c .before .before .before .before .args .probs .now) (c .before .before .before .before .args .base) (c .before .before .before .before .args .at) (c .before .before .before .before .args .zeros) (c .before .before .before .before .args .first) (c .before .before .before .before .args .from) _ c₀ (c .before .loop .i) (c .before .loop .row) _ (c .before .loop .some) (c .before .loop .e) (c .loop-test .left) (c .before .loop .inv .2 c₀ h) }

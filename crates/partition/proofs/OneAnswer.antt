@@ -10,17 +10,11 @@ use Rattle.partition.proofs.bool_start.Kinds as bool-start-k
 use Rattle.partition.proofs.tokens.Reads as tokens
 use Rattle.partition.proofs.tokens.Kinds as tokens-k
 
-pub same-five : {x y : ℕ} {a b c a' b' c' : List ℕ} {d d' : List ℤ} {z : ℕ × List ℕ × List ℕ × List ℕ × List ℤ}
-    → (x, a, b, c, d) ≡ z → (y, a', b', c', d') ≡ z → (x ≡ y) × ((a, b, c, d) ≡ (a', b', c', d'))
-same-five p q =
-    let e = p ∙ sym q in (
-      ap (λ (w : ℕ × List ℕ × List ℕ × List ℕ × List ℤ). w .0) e,
-      ap (λ (w : ℕ × List ℕ × List ℕ × List ℕ × List ℤ). (w .1, w .2, w .3, w .4)) e,
-    )
-
 pub bool-start-one : OneAnswerIn 2 bool-start-k.ps bool-start-k.r bool-start.Post (λ κs s. s .1 .0 .now)
 bool-start-one κs a x y s t = same-pair
 
 pub tokens-one : OneAnswerIn 6 tokens-k.ps tokens-k.r tokens.Post {A = List ℕ × List ℕ × List ℕ × List ℤ}
     (λ κs s. (s .1 .1 .1 .0 .now, s .1 .1 .1 .1 .0 .now, s .1 .1 .1 .1 .1 .0 .now, s .1 .1 .1 .1 .1 .1 .0 .now))
-tokens-one κs a x y s t = same-five
+tokens-one κs a x y s t p q =
+    let e = p ∙ sym q in
+    (ap (λ (w : ℕ × List ℕ × List ℕ × List ℕ × List ℤ). w .0) e, ap (λ (w : ℕ × List ℕ × List ℕ × List ℕ × List ℤ). (w .1, w .2, w .3, w .4)) e)

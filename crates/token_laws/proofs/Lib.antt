@@ -1,2 +1,3 @@
 pub mod Bools
 pub mod Sizes
+pub mod Behind

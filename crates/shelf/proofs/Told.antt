@@ -21,7 +21,7 @@ use Rattle.shelf_items.specs.Steps.{planned, begun, hasPlace}
 use Rattle.shelf_items.proofs.Turns.{outAfter, repliesAfter, countAfter, out-next, replies-next, count-next}
 use Rattle.shelf_items.proofs.Answered.{answered, turn-ready}
 use Rattle.shelf_items.proofs.Places.{has-place}
-use Rattle.shelf_items.proofs.Drawn.{jobs-shape}
+use Rattle.shelf_items.proofs.Items.{jobs-shape}
 use Rattle.shelf.specs.Few.{atMost32}
 
 -- ---- jobs

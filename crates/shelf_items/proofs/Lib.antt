@@ -10,6 +10,6 @@ pub mod Lengths
 pub mod Turns
 pub mod Answered
 pub mod Places
-pub mod Drawn
+pub mod Items
 pub mod Told
 pub mod OneAnswer

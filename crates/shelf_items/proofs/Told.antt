@@ -12,7 +12,7 @@ use Rattle.shelf_items.specs.Shelf.{bytesAt, bytesAnswer}
 use Rattle.shelf_items.specs.Steps.{planned, begun}
 use Rattle.shelf_items.proofs.Turns.{outAfter, repliesAfter, countAfter}
 use Rattle.shelf_items.proofs.Answered.{answered}
-use Rattle.shelf_items.proofs.Drawn.{bytes-shape}
+use Rattle.shelf_items.proofs.Items.{bytes-shape}
 
 module _ (modes records subs : List ℕ) (coeffs : List ℤ) (out replies clipped : List ℕ) where
   pub no-modes : eqb (length modes) (3 * length replies) ≡ false

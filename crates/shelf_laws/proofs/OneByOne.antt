@@ -24,7 +24,7 @@ use Rattle.drawing.specs.Drawn.{planesOf, drawnBytes}
 use Rattle.drawing.proofs.Shape.{planes-length}
 use Rattle.zopredil.specs.Macroblocks.{subModesFit, mbAnswer, lengthsFit as mbFit}
 use Rattle.shelf_items.specs.Shelf.{shelved, lengthsFit, bytesAt, bytesAnswer}
-use Rattle.shelf_items.proofs.Drawn.{bytes-shape}
+use Rattle.shelf_items.proofs.Items.{bytes-shape}
 use Rattle.shelf_laws.proofs.Items.{item-at}
 
 -- ---- one item

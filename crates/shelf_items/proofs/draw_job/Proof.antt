@@ -3,7 +3,7 @@ use mathlib.Core.Path.{subst, sym}
 use native.Mathlib.Omega.{arith}
 use borrow.Author.Needs.{needs}
 use Rattle.drawing.proofs.Shape.{Shape, with-shape}
-use Rattle.shelf_items.proofs.Drawn.{job-drawn}
+use Rattle.shelf_items.proofs.Items.{job-drawn}
 use Rattle.shelf_items.proofs.draw_job.Statement.{statement}
 use Rattle.shelf_items.proofs.draw_job.Tie as tie
 

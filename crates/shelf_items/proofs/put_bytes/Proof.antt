@@ -3,7 +3,7 @@ use mathlib.Core.Path.{subst, sym}
 use native.Mathlib.Omega.{arith}
 use borrow.Author.Needs.{needs}
 use Rattle.drawing.proofs.Shape.{Shape, bytes-shape}
-use Rattle.shelf_items.proofs.Drawn.{bytes-drawn}
+use Rattle.shelf_items.proofs.Items.{bytes-drawn}
 use Rattle.shelf_items.proofs.put_bytes.Statement.{statement}
 use Rattle.shelf_items.proofs.put_bytes.Tie as tie
 

@@ -10,7 +10,7 @@ use Rattle.shelf_items.specs.declared.Plan.{Plan}
 use Rattle.shelf_items.specs.Shelf.{bytesAt}
 use Rattle.shelf_items.proofs.Turns.{outAfter, repliesAfter, countAfter, out-zero, replies-zero, count-zero, out-turn, replies-turn, count-turn}
 use Rattle.shelf_items.proofs.Answered.{items-≤, turn-ready}
-use Rattle.shelf_items.proofs.Drawn.{bytes-shape}
+use Rattle.shelf_items.proofs.Items.{bytes-shape}
 use Rattle.shelf_items.proofs.Told.{no-modes, no-records, bytes-told}
 use Rattle.shelf_items.proofs.shelf_bytes.Statement.{statement}
 use Rattle.shelf_items.proofs.shelf_bytes.Tie as tie

@@ -1,5 +1,7 @@
 // What the luma and the chroma of a macroblock share: the caller's coefficients, taken and transformed four blocks side by
 // side (RFC 6386, 14.4).
+#![tactic(auto)]
+
 ghost use Rattle.std.specs.Prelude.{◌≡◌, ◌+◌, ◌≤◌, pos, length, get_or};
 ghost use Rattle.blocks.specs.Taken.{taken, residues_from};
 

@@ -8,6 +8,8 @@
 //
 // No function asks anything of its caller: a decoder that was not made here is read safely, and nothing is said of what it
 // gives.
+#![tactic(auto)]
+
 mod state;
 
 ghost use Rattle.std.specs.Prelude.{◌≡◌, ◌+◌, ◌*◌, ◌<◌, ◌≤◌, true, false, length, slice_index};
@@ -17,7 +19,7 @@ ghost use Rattle.bool_decoder.specs.Inside.{Shift, Split, Renews, Loads, four_of
 
 pub use state::{BoolState, begin, resume, save, stands};
 
-#[derive(Drop)]
+#[derive(Clone, Copy)]
 pub struct BoolDecoder {
     pub value: u64,
     pub range: u32,
@@ -25,7 +27,7 @@ pub struct BoolDecoder {
     pub at: usize,
 }
 
-#[derive(Drop)]
+#[derive(Clone, Copy)]
 pub struct Bit {
     pub bit: bool,
     pub next: BoolDecoder,

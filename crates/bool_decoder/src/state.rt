@@ -6,7 +6,7 @@ ghost use Rattle.bool_decoder.specs.State.{state_of, stands_of, in_range, Resume
 
 use crate::{BoolDecoder, byte_or_none, ready};
 
-#[derive(Drop)]
+#[derive(Clone, Copy)]
 pub struct BoolState {
     pub at: u64,
     pub range: u64,

@@ -1,4 +1,6 @@
 // One macroblock drawn at its place in the planes of its picture.
+#![tactic(auto)]
+
 ghost use Rattle.std.specs.Prelude.{◌≡◌, ◌+◌, ◌*◌, ◌≤◌, length, get_or};
 ghost use Rattle.lists.specs.Lists.{turns, store, ◌beside◌};
 ghost use Rattle.picture_limits.specs.Place.{Placed};
@@ -9,7 +11,7 @@ use macroblock::reply;
 use reconstruct::ReconstructedMb;
 
 // The reply, and how many sums were below 0 or above 255.
-#[derive(Drop)]
+#[derive(Clone, Copy)]
 pub struct DrawnMb {
     pub reply: u32,
     pub clipped: u32,

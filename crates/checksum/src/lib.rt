@@ -1,8 +1,10 @@
 // Adler-32 (RFC 1950), by which the programs of the gate tell that a file is read whole.
+#![tactic(auto)]
+
 ghost use Rattle.std.specs.Prelude.{◌≡◌};
 ghost use Rattle.checksum.specs.Adler.{begun, with_byte, with_bytes};
 
-#[derive(Drop)]
+#[derive(Clone, Copy)]
 pub struct Checksum {
     pub a: usize,
     pub b: usize,

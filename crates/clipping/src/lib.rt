@@ -1,4 +1,6 @@
 // RFC 6386, 14.5: prediction plus residue is held within 0 and 255. How many sums of a block were outside before that.
+#![tactic(auto)]
+
 ghost use Rattle.std.specs.Prelude.{◌≡◌};
 ghost use Rattle.clipping.specs.Clipped.{outside, over, block_clipped};
 

@@ -1,6 +1,8 @@
 // The inverse DCT, RFC 6386, 14.4: of one 4x4 block, and of four blocks at once. Columns first, then rows.
 // Both work on rows of w numbers: w is 4 for one block, and 16 for four blocks that lie side by side. The two loops are flat,
 // of 4 or of 16 turns, and of the 16 the compiler makes vector code.
+#![tactic(auto)]
+
 ghost use Rattle.std.specs.Prelude.{◌≡◌, ◌+◌, ◌*◌, ◌<◌, ◌≤◌, length};
 ghost use Rattle.lists.specs.Lists.{turns};
 ghost use Rattle.rfc6386.specs.Dct.{idct, idct_four};

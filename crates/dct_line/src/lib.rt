@@ -1,5 +1,7 @@
 // One pass of the inverse DCT, RFC 6386, 14.4, on the four numbers of a column or of a row, and the closing rounding of a row's
 // results. Every sum and product wraps in 32 bits, and a residue is kept in 16.
+#![tactic(auto)]
+
 ghost use Rattle.std.specs.Prelude.{◌≡◌};
 ghost use Rattle.rfc6386.specs.Dct.{by_sin, by_cos, rounded};
 ghost use Rattle.dct_line.specs.Lines.{odd_sum, odd_difference, line_of, row_of};
@@ -38,7 +40,7 @@ fn odd_sum(i4: i32, i12: i32) -> i32
 }
 
 // Four numbers of a column or a row.
-#[derive(Drop)]
+#[derive(Clone, Copy)]
 pub struct Four {
     pub x0: i32,
     pub x1: i32,
@@ -70,7 +72,7 @@ fn rounded(x: i32) -> i16
 }
 
 // Four residues.
-#[derive(Drop)]
+#[derive(Clone, Copy)]
 pub struct Short {
     pub y0: i16,
     pub y1: i16,

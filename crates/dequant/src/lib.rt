@@ -3,6 +3,8 @@
 //     block     0 | 1 .. 16 | 17 .. 20 | 21 .. 24         25 blocks of 16 coefficients
 //     plane    Y2 | Y       | U        | V
 //     factors  y2 | y1      | uv       | uv               the first of a block by DC, the other fifteen by AC
+#![tactic(auto)]
+
 ghost use Rattle.std.specs.Prelude.{◌≡◌, ◌+◌, ◌*◌, ◌≤◌, length};
 ghost use Rattle.dequant.specs.Answers.{mb_dequantised, dequantise_answer};
 ghost use Rattle.dequant.specs.Turns.{block_scaled, blocks_scaled};

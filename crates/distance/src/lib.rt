@@ -6,6 +6,8 @@
 //      measured   |still 0 |still 1  |..
 //      reports    s l e     s l e    ..     sum of squares, largest difference, equal pixels
 //      totals     s l e                     the sum, the largest, the sum
+#![tactic(auto)]
+
 ghost use Rattle.std.specs.Prelude.{◌≡◌, true, ℕ, ◌+◌, ◌-◌, ◌*◌, ◌/◌, ◌<◌, ◌≤◌, max, length, get_or};
 ghost use Rattle.lists.specs.Lists.{both, ◌beside◌};
 ghost use Rattle.plane_distance.specs.Apart.{distance_from, no_distance, together};

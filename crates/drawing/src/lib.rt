@@ -1,5 +1,7 @@
 // One macroblock from its bytes: three mode bytes (luma, chroma, skip), sixteen sub-block bytes and 400 coefficients, of
 // which luma mode B skips the first 16.
+#![tactic(auto)]
+
 ghost use Rattle.std.specs.Prelude.{◌≡◌, ◌≤◌, length};
 ghost use Rattle.drawing.specs.Drawn.{modes_known, modes_of, sub_modes_of, subs_known, drawn_b, drawn_in, drawn_with, drawn, drawn_bytes};
 

@@ -1,5 +1,7 @@
 // The loop filters of RFC 6386, section 15, on the eight pixels across an edge, in bytes and without a branch: a number of the RFC
 // from -128 to 127 is kept with 128 for zero, and a pixel that is not to be filtered gets a pull of 128, which leaves it as it is.
+#![tactic(auto)]
+
 ghost use Rattle.std.specs.Prelude.{◌≡◌, Bool, true, false, ◌+◌, ◌*◌, ◌/◌, ◌-◌, ◌≤◌, ◌<◌, min, max, leb, ltb};
 ghost use Rattle.lists.specs.Lists.{pick};
 ghost use Rattle.rfc6386.specs.LoopFilter.{apart, near, smooth, steep, filtered};

@@ -6,6 +6,8 @@
 //        ..                        ..
 //
 // A level edge's rows are lines as they stand. U and V go together, eight lanes each.
+#![tactic(auto)]
+
 mod chroma;
 mod copy;
 mod edge;

@@ -1,4 +1,6 @@
 // The limits of the loop filter, from a level and a sharpness (RFC 6386, section 15).
+#![tactic(auto)]
+
 ghost use Rattle.std.specs.Prelude.{◌≡◌, ◌+◌, ◌*◌, ◌/◌, ◌-◌, ◌≤◌, min, max, ltb};
 ghost use Rattle.lists.specs.Lists.{pick};
 ghost use Rattle.rfc6386.specs.LoopFilter.{interior_of, hev_of, limits_of, rule_of};

@@ -1,4 +1,6 @@
 // A still drawn, then filtered (RFC 6386, section 15): prediction uses unfiltered pixels, so the filter starts when all of it is drawn.
+#![tactic(auto)]
+
 ghost use Rattle.std.specs.Prelude.{◌≡◌};
 ghost use Rattle.still.specs.Answers.{told};
 ghost use Rattle.filtered_still.specs.Answers.{filtered_told};

@@ -10,6 +10,8 @@
 // An edge outside the picture is absent and its bytes are 0; any other is the finished pixels beside the macroblock. But
 // below the first row two edges outside are there: the top-left pixel of the first column is 129, in each plane, and the
 // four above right of the last column are those that the caller gives.
+#![tactic(auto)]
+
 ghost use Rattle.std.specs.Prelude.{◌≡◌};
 ghost use Rattle.gathering.specs.Answers.{gathered, refused};
 
@@ -21,7 +23,7 @@ mod edges;
 mod record;
 
 // The neighbours, or the number of the refusal.
-#[derive(Drop)]
+#[derive(Clone, Copy)]
 pub struct Gathered {
     pub reply: u32,
     pub neighbors: MbNeighbors,

@@ -6,7 +6,7 @@ ghost use Rattle.intra_edges.specs.Way.{spread, edge_block};
 use crate::{DEFAULT_ABOVE_PIXEL, DEFAULT_LEFT_PIXEL};
 
 // Which way an edge is repeated: V takes the row above down, H the left column across.
-#[derive(Drop)]
+#[derive(Clone, Copy)]
 pub(crate) enum Way {
     Down,
     Across,

@@ -8,6 +8,8 @@
 //      (n) |  n x n
 //
 // The work is done once for every n, on lent slices, in `block`, `dc` and `tm`.
+#![tactic(auto)]
+
 mod block;
 mod dc;
 mod tm;

@@ -1,5 +1,7 @@
 // intra_predict.rs: the predictors of RFC 6386, section 12, by the mode. The blocks themselves are drawn in `intra_edges`
 // (12.2: 16x16 and 8x8) and `intra_subblock` (12.3: 4x4), whose functions and constants stand here too.
+#![tactic(auto)]
+
 ghost use Rattle.std.specs.Prelude.{◌≡◌};
 ghost use Rattle.rfc6386.specs.Edges.{predict_uv};
 ghost use Rattle.intra_predict.specs.Luma.{done_pixels, predicted_y};
@@ -13,7 +15,7 @@ pub use intra_subblock::{predict_b4x4, predict_b4x4_into};
 use macroblock::{IntraUvMode, IntraYMode, reply};
 
 // A 16x16 prediction: reply 0 with the pixels, or 3 with zero pixels where the mode is B.
-#[derive(Drop)]
+#[derive(Clone, Copy)]
 pub struct LumaPrediction {
     pub reply: u32,
     pub pixels: [u8; 256],

@@ -10,6 +10,8 @@
 // Eight of the modes are lines of means: a mode takes a line of values along an edge, in the RFC's order, and each place of
 // the sub-block has its number on the line. `line` draws them; the numbers stand drawn above each mode, and under a diagonal
 // mode's drawing the mean that each number has and the pixel of the edge that it is taken at.
+#![tactic(auto)]
+
 mod line;
 
 ghost use Rattle.std.specs.Prelude.{◌≡◌};

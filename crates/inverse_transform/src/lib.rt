@@ -4,6 +4,8 @@
 //      14.3        wht         the inverse WHT of the Y2 block
 //      14.4        dct         the inverse DCT of a 4x4 block
 //      14.5        residue     prediction plus residue, in a block, in a slice and in a block of a plane; clipped sums counted
+#![tactic(auto)]
+
 pub use dct::inverse_dct_4x4;
 pub use quantiser::{
     AC_QLOOKUP, DC_QLOOKUP, QINDEX_RANGE, Y1DequantFactors, clamp_qindex, dequant_block,

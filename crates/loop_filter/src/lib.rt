@@ -12,6 +12,8 @@
 //          |    |    |    |
 //        8 |----+----+----+-
 //          |    |    |    |
+#![tactic(auto)]
+
 ghost use Rattle.std.specs.Prelude.{◌≡◌, true, false, ◌*◌, ◌≤◌, ◌<◌, ltb, leb, length};
 ghost use Rattle.lists.specs.Lists.{pick, both};
 ghost use Rattle.rfc6386.specs.LoopFilter.{sides, corner, mb_of, luma_row, chroma_row, luma_of, chroma_of};

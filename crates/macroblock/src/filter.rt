@@ -1,7 +1,7 @@
 // Data of the loop filter (RFC 6386, section 15).
 
 // The eight pixels across an edge: P3 P2 P1 P0 | Q0 Q1 Q2 Q3.
-#[derive(Drop)]
+#[derive(Clone, Copy)]
 pub struct Across {
     pub p3: u8,
     pub p2: u8,
@@ -14,7 +14,7 @@ pub struct Across {
 }
 
 // What a step across the edge, a step beside it, and high edge variance are measured by.
-#[derive(Drop)]
+#[derive(Clone, Copy)]
 pub struct Limits {
     pub edge: u8,
     pub interior: u8,
@@ -22,7 +22,7 @@ pub struct Limits {
 }
 
 // The simple filter; the normal one at a macroblock's own edge; the normal one at an inner edge.
-#[derive(Drop)]
+#[derive(Clone, Copy)]
 pub enum Kind {
     Simple,
     Outer,
@@ -30,7 +30,7 @@ pub enum Kind {
 }
 
 // The limits at a macroblock's own edges and at its inner ones, and whether it is the simple filter.
-#[derive(Drop)]
+#[derive(Clone, Copy)]
 pub struct Rule {
     pub outer: Limits,
     pub inner: Limits,

@@ -1,5 +1,7 @@
 // Plain data of a key-frame macroblock: the prediction modes of RFC 6386 sections 8 and 11 with their numbers and what a byte
 // says of them, the mode record, the neighbour record, the loop filter's data and the numbers of the replies.
+#![tactic(auto)]
+
 mod bytes;
 pub mod filter;
 mod modes;

@@ -1,7 +1,7 @@
 // The prediction modes, in the order of the Rust's enums.
 
 // The luma mode of a macroblock (RFC 6386, 8.2 and 11.2).
-#[derive(Drop)]
+#[derive(Clone, Copy)]
 pub enum IntraYMode {
     Dc,
     V,
@@ -11,7 +11,7 @@ pub enum IntraYMode {
 }
 
 // The chroma mode of a macroblock (11.2).
-#[derive(Drop)]
+#[derive(Clone, Copy)]
 pub enum IntraUvMode {
     Dc,
     V,
@@ -20,7 +20,7 @@ pub enum IntraUvMode {
 }
 
 // The mode of a 4x4 luma sub-block (11.2).
-#[derive(Drop)]
+#[derive(Clone, Copy)]
 pub enum IntraBmode {
     Dc,
     Tm,
@@ -35,7 +35,7 @@ pub enum IntraBmode {
 }
 
 // The modes of a macroblock, and whether its coefficients are skipped.
-#[derive(Drop)]
+#[derive(Clone, Copy)]
 pub struct MbModes {
     pub y: IntraYMode,
     pub uv: IntraUvMode,

@@ -11,7 +11,7 @@ ghost use Rattle.lists.specs.Lists.{part};
 ghost use Rattle.macroblock.specs.Neighbors.{no_luma, no_chroma, absent};
 
 // The edges of luma: the row is the top-left pixel, the sixteen above and the four above right.
-#[derive(Drop)]
+#[derive(Clone, Copy)]
 pub struct LumaEdges {
     pub row: [u8; 21],
     pub topleft_there: bool,
@@ -22,7 +22,7 @@ pub struct LumaEdges {
 }
 
 // The edges of U or V: the row is the top-left pixel and the eight above.
-#[derive(Drop)]
+#[derive(Clone, Copy)]
 pub struct ChromaEdges {
     pub row: [u8; 9],
     pub topleft_there: bool,
@@ -31,7 +31,7 @@ pub struct ChromaEdges {
     pub left_there: bool,
 }
 
-#[derive(Drop)]
+#[derive(Clone, Copy)]
 pub struct MbNeighbors {
     pub y: LumaEdges,
     pub u: ChromaEdges,

@@ -5,21 +5,21 @@ ghost use Rattle.macroblock.specs.Modes.{y_number, uv_number, b_number, y_answer
 use crate::modes::{IntraBmode, IntraUvMode, IntraYMode};
 
 // What a byte says of the luma mode.
-#[derive(Drop)]
+#[derive(Clone, Copy)]
 pub enum YModeOf {
     Mode(IntraYMode),
     Unknown,
 }
 
 // What a byte says of the chroma mode.
-#[derive(Drop)]
+#[derive(Clone, Copy)]
 pub enum UvModeOf {
     Mode(IntraUvMode),
     Unknown,
 }
 
 // What a byte says of a sub-block's mode.
-#[derive(Drop)]
+#[derive(Clone, Copy)]
 pub enum BModeOf {
     Mode(IntraBmode),
     Unknown,

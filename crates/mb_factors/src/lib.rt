@@ -6,13 +6,15 @@
 //     UV    the DC table's, at most 132         the AC table's
 //
 // Each sum of the base index and a delta is held within 0 and 127 when its table is read, and not before.
+#![tactic(auto)]
+
 ghost use Rattle.std.specs.Prelude.{◌≡◌, true, ◌*◌, ◌/◌, ◌≤◌, min, max, pos, ◌+ℤ◌};
 ghost use Rattle.quantiser.specs.Factors.{signed32};
 ghost use Rattle.mb_factors.specs.Entries.{Unsigned, entries};
 ghost use Rattle.mb_factors.specs.Factors.{sums_fit, factors_given, no_factors, mb_factors};
 
 // The six factors, beside a reply: 5 where a sum of indices is outside signed 32 bits, with all six 0.
-#[derive(Drop)]
+#[derive(Clone, Copy)]
 pub struct MbDequantFactors {
     pub reply: u32,
     pub y1_dc: i16,
@@ -103,7 +105,7 @@ fn given(yac_qi: i32, ydc: i32, y2dc: i32, y2ac: i32, uvdc: i32, uvac: i32) -> M
 }
 
 // Three entries of a table, as numbers that are never negative. A table is read from one copy of it for all three.
-#[derive(Drop)]
+#[derive(Clone, Copy)]
 struct Entries {
     first: u32,
     second: u32,

@@ -1,5 +1,7 @@
 // Partition bytes as stored, over lent slices: RFC 6386, sections 7 and 13. A bool decoder's state is four numbers, as 7.3 keeps
 // it: the place of the next byte, the range, two bytes of value, and how many bits were shifted out of them.
+#![tactic(auto)]
+
 ghost use Rattle.std.specs.Prelude.{◌≡◌, ◌&&◌, ltb, length};
 ghost use Rattle.slices.specs.Copies.{put_in};
 ghost use Rattle.partition.specs.Answers.{numbers_of, state_in, flags_of, bytes_of, all_flags, start_answer, put_answer, flagged_answer, tokens_answer};

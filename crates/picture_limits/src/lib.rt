@@ -1,4 +1,6 @@
 // The limits of a picture: its size, the place of a macroblock in it, and the lengths of its planes.
+#![tactic(auto)]
+
 ghost use Rattle.std.specs.Prelude.{◌≡◌, ◌*◌, eqb};
 ghost use Rattle.rfc6386.specs.Picture.{place_ok, size_ok, luma_ok, sizes_ok};
 

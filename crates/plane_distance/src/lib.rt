@@ -6,12 +6,14 @@
 //                 | | | | | | | |
 //      largest    k k k k k k k k      the largest of each lane so far
 //      equal      k k k k k k k k      how many of each lane were equal so far, in a byte: so 255 turns a stretch at most
+#![tactic(auto)]
+
 ghost use Rattle.std.specs.Prelude.{◌≡◌, true, ℕ, ◌+◌, ◌*◌, ◌<◌, ◌≤◌, max, min, eqb, length, get_or, replicate};
 ghost use Rattle.lists.specs.Lists.{table, pick, total};
 ghost use Rattle.plane_distance.specs.Sums.{largest};
 ghost use Rattle.plane_distance.specs.Apart.{apart, apart_at, raised, counted, distance_from, together, comparable, no_distance, plane_distance};
 
-#[derive(Drop)]
+#[derive(Clone, Copy)]
 pub struct Distance {
     pub squares: u64,
     pub largest: u64,

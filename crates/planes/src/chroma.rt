@@ -14,7 +14,7 @@ ghost use Rattle.planes.specs.Planes.{chroma_of, uv_drawn};
 use macroblock::{ChromaEdges, IntraUvMode, MbNeighbors};
 
 // The pixels of U or V, and how many sums were below 0 or above 255.
-#[derive(Drop)]
+#[derive(Clone, Copy)]
 pub struct ChromaPlane {
     pub pixels: [u8; 64],
     pub clipped: u32,

@@ -9,7 +9,7 @@ ghost use Rattle.planes.specs.Planes.{luma_coded, y_drawn};
 use macroblock::{IntraYMode, LumaEdges, MbNeighbors};
 
 // The pixels of Y, and how many sums were below 0 or above 255.
-#[derive(Drop)]
+#[derive(Clone, Copy)]
 pub struct LumaPlane {
     pub pixels: [u8; 256],
     pub clipped: u32,

@@ -1,4 +1,6 @@
 // RFC 6386, 9.6 and 14.1: the factors of a quantiser index, and dequantising. The two tables stand in tables.rt.
+#![tactic(auto)]
+
 ghost use Rattle.std.specs.Prelude.{◌≡◌};
 ghost use Rattle.rfc6386.specs.Quantiser.{clamp_index, dc_factor, ac_factor, dequant, dequantised};
 ghost use Rattle.quantiser.specs.Factors.{signed32, y1_factors};
@@ -46,7 +48,7 @@ pub fn signed32(z: i64) -> bool
 
 // The factors of a luma block that has its own DC (14.1), beside a reply: 5 where the sum of the indices is outside
 // signed 32 bits, with both factors 0.
-#[derive(Drop)]
+#[derive(Clone, Copy)]
 pub struct Y1DequantFactors {
     pub reply: u32,
     pub dc: i16,

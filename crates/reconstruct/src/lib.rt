@@ -1,6 +1,8 @@
 // One macroblock of a key frame, from its modes, its neighbours and its dequantised coefficients (RFC 6386, 14.2 and 12.3):
 // predict, and unless the coefficients are skipped, add the residues. Two walkers, as in reconstruct.rs: one for the four
 // 16x16 luma modes, one for luma mode B.
+#![tactic(auto)]
+
 ghost use Rattle.std.specs.Prelude.{◌≡◌};
 ghost use Rattle.reconstruct.specs.Answers.{refusal, whole_of, parts_of, non_b, walk_b};
 ghost use Rattle.rfc6386.specs.Edges.{is_b};
@@ -9,7 +11,7 @@ use macroblock::{IntraBmode, IntraUvMode, IntraYMode, MbModes, MbNeighbors, repl
 
 // The planes of a macroblock, row by row, and how many sums were below 0 or above 255 before they were held within them; all
 // of it 0 beside a reply that is not 0.
-#[derive(Drop)]
+#[derive(Clone, Copy)]
 pub struct ReconstructedMb {
     pub reply: u32,
     pub y: [u8; 256],

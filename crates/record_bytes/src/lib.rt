@@ -1,5 +1,7 @@
 // The neighbour record as 81 bytes, for interfaces that pass bytes: ten marks of 0 or 1, then the pixels, in the order
 // drawn in specs/Bytes.antt.
+#![tactic(auto)]
+
 ghost use Rattle.std.specs.Prelude.{◌≡◌, ◌+◌, ◌<◌, ◌≤◌, length};
 ghost use Rattle.lists.specs.Lists.{part};
 ghost use Rattle.record_bytes.specs.Bytes.{marked, marks_known, luma_of, chroma_of, record_of, mark_of, bytes_of};

@@ -1,6 +1,8 @@
 // Replays the committed sample of the oracle's answers, data/sample.bin: each record's input is handed to the library,
 // whose reply and output must be the record's expected bytes, and the file must end in its checksum. Prints how many
 // records of each kind agree, or the first record that does not. oracle/README.md has the format.
+#![tactic(auto)]
+
 mod answers;
 mod kinds;
 mod lengths;

@@ -12,7 +12,7 @@ pub const DIFFERS: u8 = 2;
 pub const NO_FORMAT: u8 = 3;
 
 // The checksum of what was read, the number of records that agreed, and the kind of the last one that was read.
-#[derive(Drop)]
+#[derive(Clone, Copy)]
 pub struct Progress {
     pub sum: Checksum,
     pub records: u64,

@@ -8,7 +8,7 @@ use crate::scattered;
 use shelf_items::Job;
 
 // Whether all items are equal, and whether they are with one of them damaged.
-#[derive(Drop)]
+#[derive(Clone, Copy)]
 pub struct Verdict {
     pub equal: bool,
     pub damaged_equal: bool,

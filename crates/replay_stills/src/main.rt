@@ -3,6 +3,8 @@
 // line for each still: its file, its sizes in pixels and in macroblocks, the checksums of its two files, and whether all
 // pixels are equal, all loose macroblocks, and all but the damaged one, which is refused. oracle/README.md says which stills
 // they are.
+#![tactic(auto)]
+
 mod loose;
 mod numbers;
 mod scattered;

@@ -15,7 +15,7 @@ fn macroblock_of(i: usize, n: usize) -> usize
 }
 
 // Where a macroblock stands in its still.
-#[derive(Drop)]
+#[derive(Clone, Copy)]
 struct Place {
     col: usize,
     row: usize,

@@ -1,4 +1,6 @@
 // RFC 6386, 14.5: prediction plus residue, held within 0 and 255. A block of a plane is in plane.rt.
+#![tactic(auto)]
+
 ghost use Rattle.std.specs.Prelude.{◌≡◌, length};
 ghost use Rattle.rfc6386.specs.Residue.{sum, summed};
 ghost use Rattle.residue.specs.Answer.{summed_block, same_lengths, residue_reply, residue_added};
@@ -26,7 +28,7 @@ fn block_pixels(prediction: [u8; 16], residue: [i16; 16]) -> [u8; 16]
 }
 
 // A 4x4 block, and how many of its sixteen sums were below 0 or above 255.
-#[derive(Drop)]
+#[derive(Clone, Copy)]
 pub struct Summed {
     pub pixels: [u8; 16],
     pub clipped: u32,

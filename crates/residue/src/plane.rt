@@ -93,7 +93,7 @@ fn add_counted(part: &mut [u8], stride: usize, residue: [i16; 16]) -> u32
 }
 
 // A reply, and how many of the block's sixteen sums were below 0 or above 255: 0 where the block is refused.
-#[derive(Drop)]
+#[derive(Clone, Copy)]
 pub struct AddedInto {
     pub reply: u32,
     pub clipped: u32,

@@ -5,6 +5,8 @@
 //        row 16 row - 1   ..  x  x  p | p  p  p  p
 //        ---------------------------- +
 //        the last macroblock of `row` |
+#![tactic(auto)]
+
 ghost use Rattle.std.specs.Prelude.{◌≡◌, ◌≤◌};
 ghost use Rattle.picture_limits.specs.Place.{Placed};
 ghost use Rattle.right_pixels.specs.Answers.{row_ok, last_above, refused, right_pixels};
@@ -13,7 +15,7 @@ use macroblock::reply;
 use picture_limits::{luma_ok, place_ok};
 
 // The four pixels, or the number of the refusal beside zeros.
-#[derive(Drop)]
+#[derive(Clone, Copy)]
 pub struct RightPixels {
     pub reply: u32,
     pub pixels: [u8; 4],

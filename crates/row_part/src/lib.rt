@@ -1,4 +1,6 @@
 // A row's part of a plane, handed back as a part of the lent plane itself.
+#![tactic(auto)]
+
 ghost use Rattle.std.specs.Prelude.{◌≡◌, length};
 ghost use Rattle.rfc6386.specs.Picture.{given, row_part};
 ghost use Rattle.row_part.specs.Start.{part_start};

@@ -1,5 +1,7 @@
 // A shelf of loose macroblocks from a lent list of jobs, each a mode record with its neighbour record. An item is drawn by
 // `put_job`, by itself.
+#![tactic(auto)]
+
 ghost use Rattle.std.specs.Prelude.{◌≡◌};
 ghost use Rattle.lists.specs.Lists.{◌beside◌};
 ghost use Rattle.shelf_items.specs.Shelf.{shelf_answer, few_answer};

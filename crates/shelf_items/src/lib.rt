@@ -1,6 +1,8 @@
 // The items of a shelf of loose macroblocks, each drawn by itself from its own modes, neighbour record, sub-block bytes and
 // coefficients into its own 384 bytes (Y, U, V), with a reply of its own; and a shelf of them from bytes. A refused item
 // writes zeros, and the others go on.
+#![tactic(auto)]
+
 ghost use Rattle.std.specs.Prelude.{◌≡◌, ◌+◌, ◌*◌, ◌<◌, ◌≤◌, eqb, length};
 ghost use Rattle.lists.specs.Lists.{◌beside◌};
 ghost use Rattle.shelf_items.specs.Shelf.{lengths_fit, job_drawn, bytes_at, bytes_answer};
@@ -9,14 +11,14 @@ ghost use Rattle.shelf_items.specs.Steps.{planned, begun, has_place, Ready, Put,
 use macroblock::{MbModes, MbNeighbors, reply};
 use reconstruct::ReconstructedMb;
 
-#[derive(Drop)]
+#[derive(Clone, Copy)]
 pub struct Job {
     pub modes: MbModes,
     pub neighbors: MbNeighbors,
 }
 
 // How many items are to be drawn, and the reply of the whole call.
-#[derive(Drop)]
+#[derive(Clone, Copy)]
 pub struct Plan {
     pub items: usize,
     pub reply: u32,

@@ -1,4 +1,6 @@
 // Copies between lent slices and arrays, for interfaces that are handed slices. Nothing is copied between unequal lengths.
+#![tactic(auto)]
+
 ghost use Rattle.std.specs.Prelude.{◌≡◌, ◌++◌, ◌∷◌, [], length, pos};
 ghost use Rattle.slices.specs.Copies.{copied, cleared, or_zeros, put_in};
 

@@ -1,4 +1,6 @@
 // A whole still (RFC 6386, 12 and 14): its macroblocks in raster order, each from the finished pixels around it.
+#![tactic(auto)]
+
 ghost use Rattle.std.specs.Prelude.{◌≡◌, ◌+◌, ◌*◌, ◌<◌, ◌≤◌, true, false, length};
 ghost use Rattle.lists.specs.Lists.{◌beside◌};
 ghost use Rattle.still.specs.Picture.{told_at, drawing, right_at, right_from};
@@ -11,7 +13,7 @@ use macroblock::reply;
 
 // The reply, in reply 8 the raster index of the refused macroblock, else 0, and how many sums of the finished macroblocks were
 // below 0 or above 255.
-#[derive(Drop)]
+#[derive(Clone, Copy)]
 pub struct StillReply {
     pub reply: u32,
     pub index: usize,

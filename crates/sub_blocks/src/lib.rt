@@ -3,6 +3,8 @@
 //     window    what a sub-block reads of the buffer
 //     put       what it writes into the buffer
 //     walk      the sixteen sub-blocks
+#![tactic(auto)]
+
 mod put;
 mod walk;
 mod window;

@@ -13,7 +13,7 @@ use macroblock::{IntraBmode, LumaEdges};
 use work_buffer::LENGTH;
 
 // The luma of a macroblock in mode B, and how many sums were below 0 or above 255.
-#[derive(Drop)]
+#[derive(Clone, Copy)]
 pub struct LumaParts {
     pub pixels: [u8; 256],
     pub clipped: u32,

@@ -1,4 +1,6 @@
 // The token probabilities of RFC 6386, section 13: four planes of eight bands of three classes of eleven.
+#![tactic(auto)]
+
 mod defaults;
 
 ghost use Rattle.std.specs.Prelude.{◌≡◌, ◌&&◌, ltb};

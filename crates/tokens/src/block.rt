@@ -7,7 +7,7 @@ use crate::tree::{Token, nonzero};
 use bool_decoder::{BoolDecoder, after_one, after_zero, is_one, ready, take};
 
 // After a block: whether it counts as one that has coefficients, and the decoder.
-#[derive(Drop)]
+#[derive(Clone, Copy)]
 pub struct Block {
     pub some: bool,
     pub next: BoolDecoder,

@@ -3,6 +3,8 @@
 //     block  0    1 .. 16   17 .. 20   21 .. 24        its coefficients stand from 16 times its number on
 //     plane  Y2   Y         U          V
 //     flag   8    0 .. 3    4, 5       6, 7            nine flags each way
+#![tactic(auto)]
+
 mod block;
 mod tree;
 
@@ -28,7 +30,7 @@ pub const PAST_END: u32 = 9;
 pub const NO_PROBABILITY: u32 = 10;
 
 // The answer: the coefficients of the 25 blocks in raster order, the contexts, the decoder's state.
-#[derive(Drop)]
+#[derive(Clone, Copy)]
 pub struct Macroblock {
     pub reply: u32,
     pub coeffs: [i16; 400],

@@ -10,7 +10,7 @@ ghost use Rattle.tokens.specs.Walks.{Walks, token_of};
 
 use bool_decoder::{BoolDecoder, after_one, after_zero, is_one, ready, take};
 
-#[derive(Drop)]
+#[derive(Clone, Copy)]
 pub struct Token {
     pub size: u32,
     pub next: BoolDecoder,

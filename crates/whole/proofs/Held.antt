@@ -31,10 +31,10 @@ abbrev pub R16 : ℤ → ℤ
 R16 z = to_z w16 (of_z w16 z)
 
 pub held32 : (z : ℤ) → mag z < 2147483648 → R32 z ≡ z
-held32 z h = to_z-of_z (record { sfits = h })
+held32 z h = to_z-of_z {w = w32} (record { sfits = h })
 
 pub held16 : (z : ℤ) → mag z < 32768 → R16 z ≡ z
-held16 z h = to_z-of_z (record { sfits = h })
+held16 z h = to_z-of_z {w = w16} (record { sfits = h })
 
 -- what was wrapped or narrowed fits, so it is read back as it was written
 pub back32 : (z : ℤ) → R32 (wrap z) ≡ wrap z
@@ -77,7 +77,7 @@ pub wider : {z : ℤ} → SFits w32 z → SFits w64 (R32 z)
 wider f = rw (to_z-of_z f) (sfits_widen tt f)
 
 pub twice : {z : ℤ} → SFits w32 z → to_z w64 (of_z w64 (R32 z)) ≡ z
-twice f = rw (to_z-of_z f) (to_z-of_z (sfits_widen tt f))
+twice f = rw (to_z-of_z f) (to_z-of_z {w = w64} (sfits_widen tt f))
 
 -- ---- by magnitude
 mag-abs : (z : ℤ) → mag z ≤ nat_abs z

@@ -1,5 +1,7 @@
 // Arithmetic on signed machine integers, for all values and with exact promises: the 32-bit sums and products of the
 // transforms wrap, their results narrow to 16 bits, `>>` rounds down.
+#![tactic(auto)]
+
 ghost use Rattle.std.specs.Prelude.{◌≡◌, pos, ◌+ℤ◌, ◌-ℤ◌, ◌*ℤ◌};
 ghost use Rattle.std.specs.Int.Signed.{shr_z};
 ghost use Rattle.whole.specs.Whole.{wrap, narrow, clamp};

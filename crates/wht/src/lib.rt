@@ -9,12 +9,14 @@
 //      x12 x13 x14 x15         the pass of x3 x7 x11 x15
 //
 // So the rows of the block are columns for the second pass, and after it the results stand in the block's own order.
+#![tactic(auto)]
+
 ghost use Rattle.std.specs.Prelude.{◌≡◌, ◌≤◌, nat_abs};
 ghost use Rattle.rfc6386.specs.Wht.{wht_round, iwht, iwht_dc};
 ghost use Rattle.wht.specs.Pass.{Small, Within, line_of, passed, rounded_of};
 
 // The four results of a column.
-#[derive(Drop)]
+#[derive(Clone, Copy)]
 struct Four {
     x0: i32,
     x1: i32,

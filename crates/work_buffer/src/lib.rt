@@ -2,6 +2,8 @@
 // of its neighbours that its sub-blocks are predicted from. `sub_blocks` draws in it.
 //     border    the buffer as the neighbours leave it
 //     luma      the macroblock read out of it
+#![tactic(auto)]
+
 mod border;
 mod luma;
 

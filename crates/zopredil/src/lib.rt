@@ -1,6 +1,8 @@
 // The C interface, include/zopredil.h: numbers pass as themselves, a slice as pointer and length. Every function answers with
 // a reply, and its promise is one equation to a definition of specs/: what it answers, beside what it leaves in the slices
 // that it writes.
+#![tactic(auto)]
+
 pub mod distances;
 pub mod filter;
 pub mod macroblocks;

@@ -1,7 +1,6 @@
 -- `clipping::over` meets its contract. Assumes nothing.
 use mathlib.Core.Path.{ap, ◌∙◌}
 use native.Mathlib.Omega.{arith}
-use borrow.Author.Rules.{rules}
 use lib.IntN.{pos, ◌+ℤ◌}
 use mir.Syntax.{w32}
 use mir.Val.{to_z}
@@ -9,19 +8,18 @@ use mir.Facts.{to_z_pos}
 use Rattle.whole.proofs.Held.{R32}
 use Rattle.whole.proofs.Chain.{Is, widened, plus, held, fits32}
 use Rattle.clipping.specs.Clipped.{outside, over}
-use Rattle.clipping.proofs.over.Statement.{statement}
-use Rattle.clipping.proofs.over.Tie as tie
+use Rattle.clipping.proofs.over.Goals as goal
 
 -- the pixel and the sum, as the machine has them
-pixel : (c : tie.Start) → Is 255 (to_z w32 c.args.p) (pos c.args.p)
+pixel : (c : goal.Start) → Is 255 (to_z w32 c.args.p) (pos c.args.p)
 pixel c = record { is = to_z_pos w32 (omega (arith, c.ranges.p.fits)); small = omega (arith, c.ranges.p.fits) }
 
-total : (c : tie.After-widen) → Is 33023 (to_z w32 c.before.args.p +ℤ R32 c.widen.result) (pos c.before.args.p +ℤ c.before.args.r)
-total c = plus (pixel c.before) (widened c.before.ranges.r c.widen.ensures)
+total : (c : goal.After-widen) → Is 33023 (to_z w32 c.args.p +ℤ R32 c.widen.result) (pos c.args.p +ℤ c.args.r)
+total c = plus (pixel c.before) (widened c.ranges.r c.widen.ensures)
 
-returns : tie.Need-returns
+pub returns : goal.returns
 unfolding over
 returns c = c.outside.ensures ∙ ap outside (held (total c.before) tt).is
 
-pub over-spec : {M : Type 1} → statement M
-over-spec = tie.close (tie.spec (λ c. search rules) (λ c κs. tt) (λ c. fits32 (total c) tt) (λ c κs. tt) returns)
+pub overflow_add-p : goal.overflow_add-p
+overflow_add-p c = fits32 (total c) tt

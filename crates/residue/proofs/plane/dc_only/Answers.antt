@@ -12,27 +12,26 @@ use Rattle.whole.proofs.Held.{R32, held16}
 use Rattle.whole.proofs.Chain.{Is, widened, plus, lit, down, held, fits32}
 use Rattle.whole.proofs.Modulo.{narrow-held}
 use Rattle.rfc6386.specs.Dct.{idct_dc}
-use Rattle.residue.proofs.plane.dc_only.Statement.{statement}
-use Rattle.residue.proofs.plane.dc_only.Tie as tie
+use Rattle.residue.proofs.plane.dc_only.Goals as goal
 
 -- the closing rounding
 abbrev closing : ℤ
 closing = pos 4
 
-total : (c : tie.After-widen) → Is 32772 (R32 c.widen.result +ℤ closing) (c.before.args.dc +ℤ closing)
-total c = plus (widened c.before.ranges.dc c.widen.ensures) (lit closing)
+total : (c : goal.After-widen) → Is 32772 (R32 c.widen.result +ℤ closing) (c.args.dc +ℤ closing)
+total c = plus (widened c.ranges.dc c.widen.ensures) (lit closing)
 
 short : (z : ℤ) → nat_abs z ≤ 32772 → SFits w16 (shr_z z 8)
 short (pos n) h = record { sfits = omega arith }
 short (negsuc n) h = record { sfits = omega arith }
 
-returns : tie.Need-returns
+pub returns : goal.returns
 unfolding idct_dc
 returns c =
     let sum = total c.before in
-    let z = c.before.before.args.dc +ℤ closing in
+    let z = c.args.dc +ℤ closing in
     ap (replicate 16)
-    (held16 _ c.narrow.type-inv ∙ c.narrow.ensures ∙ ap narrow (held (down (held sum tt) 8) tt).is ∙ narrow-held (shr_z z 8) (short z sum.small))
+    (held16 _ c.narrow-v.type_inv ∙ c.narrow-v.ensures ∙ ap narrow (held (down (held sum tt) 8) tt).is ∙ narrow-held (shr_z z 8) (short z sum.small))
 
-pub dc-only-spec : {M : Type 1} → statement M
-dc-only-spec = tie.close (tie.spec (λ c κs. tt) (λ c. fits32 (total c) tt) (λ c κs. tt) returns)
+pub overflow_add-widen : goal.overflow_add-widen
+overflow_add-widen c = fits32 (total c) tt

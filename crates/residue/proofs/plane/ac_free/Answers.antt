@@ -6,6 +6,7 @@ use native.Mathlib.Omega.{arith}
 use Rattle.residue.specs.Answer.{zeros_to, ac_free}
 use Rattle.residue.proofs.AcFree.{still-free, not_free}
 use Rattle.residue.proofs.plane.ac_free.Goals as goal
+use Rattle.residue.proofs.plane.ac_free.Goals.{then-input-k-ne0, else-input-k-ne0}
 
 pub loop-k-init : goal.loop-k-init
 unfolding zeros_to
@@ -15,7 +16,10 @@ pub loop-k-preserved : goal.loop-k-preserved
 loop-k-preserved c =
     let m = c.t10-1.given in (
       omega arith,
-      ⊎_elim (λ w. w.1 ∙ not_free _ c.loop-k.k m w.0.taken) (λ w. w.1 ∙ still-free _ c.loop-k.k m _ c.loop-k.invariant.1 w.0.left) c.if-input-k-ne0.branch,
+      elim c.if-input-k-ne0.branch [
+        then-input-k-ne0 w ↦ w.free-is ∙ not_free _ c.loop-k.k m w.if-input-k-ne0.true
+      | else-input-k-ne0 w ↦ w.free-is ∙ still-free _ c.loop-k.k m _ c.loop-k.invariant.1 w.if-input-k-ne0.false
+      ],
     )
 
 pub returns : goal.returns

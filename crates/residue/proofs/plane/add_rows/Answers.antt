@@ -11,9 +11,10 @@ use Rattle.whole.proofs.Held.{held16}
 use Rattle.rfc6386.specs.Residue.{sum, sum_at, added_at}
 use Rattle.residue.proofs.Part.{turn-in-part}
 use Rattle.residue.proofs.plane.add_rows.Goals as goal
+use Rattle.residue.proofs.plane.add_rows.Goals.{In-loop-i}
 
 -- the row of pixel i is at most the third
-row : (c : goal.In-loop-i) → c.loop-i.i / 4 * c.args.stride ≤ 3 * c.args.stride
+row : (c : In-loop-i) → c.loop-i.i / 4 * c.args.stride ≤ 3 * c.args.stride
 row c = mul-le-mul_right c.args.stride (omega arith)
 
 pub loop-i-init : goal.loop-i-init
@@ -43,7 +44,7 @@ pub overflow_add-j : goal.overflow_add-j
 overflow_add-j c = omega (arith, row c)
 
 pub bounds-part-j : goal.bounds-part-j
-bounds-part-j c = omega (arith, row c.before)
+bounds-part-j c = omega (arith, row (goal.at.bounds-part-j c).In-loop-i)
 
 pub bounds-part-j-in-loop-i : goal.bounds-part-j-in-loop-i
-bounds-part-j-in-loop-i c = omega (arith, row c.before.before.before)
+bounds-part-j-in-loop-i c = omega (arith, row (goal.at.bounds-part-j-in-loop-i c).In-loop-i)

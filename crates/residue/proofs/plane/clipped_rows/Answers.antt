@@ -8,13 +8,14 @@ use Rattle.lists.specs.Lists.{total}
 use Rattle.clipping.proofs.Counted.{over-≤}
 use Rattle.residue.proofs.Counted.{count_turn}
 use Rattle.residue.proofs.plane.clipped_rows.Goals as goal
+use Rattle.residue.proofs.plane.clipped_rows.Goals.{After-over-n, In-loop-i}
 
 -- the row of pixel i is at most the third
-row : (c : goal.In-loop-i) → c.loop-i.i / 4 * c.args.stride ≤ 3 * c.args.stride
+row : (c : In-loop-i) → c.loop-i.i / 4 * c.args.stride ≤ 3 * c.args.stride
 row c = mul-le-mul_right c.args.stride (omega arith)
 
 -- a turn adds at most 1
-one : (c : goal.After-over-n) → c.over-n.result ≤ 1
+one : (c : After-over-n) → c.over-n.result ≤ 1
 one c = rw c.over-n.ensures (over-≤ _ _)
 
 pub loop-i-init : goal.loop-i-init
@@ -46,4 +47,4 @@ pub overflow_add-j : goal.overflow_add-j
 overflow_add-j c = omega (arith, row c)
 
 pub bounds-part-j : goal.bounds-part-j
-bounds-part-j c = omega (arith, row c.before)
+bounds-part-j c = omega (arith, row (goal.at.bounds-part-j c).In-loop-i)

@@ -1,15 +1,12 @@
-use Prim.Native.Nat.{ℕ, zero, suc, ◌≤◌, ◌<◌}
+use Prim.Native.Nat.{ℕ, zero, suc, ◌≤◌}
 use mathlib.Core.Path.{◌≡◌, sym, subst, ap, ◌∙◌}
-use mathlib.Core.Bool.{Bool, true, false}
 use native.Mathlib.Omega.{arith}
-use lib.IntN.{ℤ, pos, negsuc, neg_ℤ, ◌-ℤ◌, +ℤ_idl}
+use lib.IntN.{ℤ, pos, neg_ℤ, ◌-ℤ◌, +ℤ_idl}
 use mir.Syntax.{w16}
-use mir.Val.{SFits, to_z, of_z}
+use mir.Val.{SFits, to_z}
 use mir.Facts.{to_z-of_z, to_z_pos}
-use borrow.Author.Rules.{rules}
 use Rattle.tokens.specs.Tokens.{signed_of}
-use Rattle.tokens.proofs.block.signed.Statement.{statement}
-use Rattle.tokens.proofs.block.signed.Tie as tie
+use Rattle.tokens.proofs.block.signed.Goals as goal
 
 fits-minus : (n : ℕ) → n ≤ 2114 → SFits w16 (neg_ℤ (pos n))
 fits-minus zero h = record { sfits = omega arith }
@@ -25,13 +22,13 @@ module _ (n : ℕ) (h : n ≤ 2114) where
   fits : SFits w16 (pos 0 -ℤ to_z w16 n)
   fits = subst (SFits w16) (sym minus_is) (fits-minus n h)
 
-returns : tie.Need-returns
+pub returns-then-minus : goal.returns-then-minus
 unfolding signed_of
-returns c = let s = c.before in rw c.if1.true (to_z-of_z (fits s.args.size s.requires) ∙ minus_is s.args.size s.requires)
+returns-then-minus c = rw c.if-minus.true (to_z-of_z (fits c.args.size c.requires) ∙ minus_is c.args.size c.requires)
 
-returns-2 : tie.Need-returns-2
+pub returns-else-minus : goal.returns-else-minus
 unfolding signed_of
-returns-2 c = let s = c.before in rw c.if1.false (bits_are s.args.size s.requires)
+returns-else-minus c = rw c.if-minus.false (bits_are c.args.size c.requires)
 
-pub signed-spec : {M : Type 1} → statement M
-signed-spec = tie.close (tie.spec (λ c. search rules) (λ c. fits c.before.args.size c.before.requires) returns returns-2)
+pub overflow_sub-result : goal.overflow_sub-result
+overflow_sub-result c = fits c.args.size c.requires

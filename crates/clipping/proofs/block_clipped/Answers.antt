@@ -12,11 +12,14 @@ use Rattle.clipping.proofs.block_clipped.Goals as goal
 one : (c : goal.After-over-n) → c.over-n.result ≤ 1
 one c = rw c.over-n.ensures (over-≤ _ _)
 
--- loop-i-preserved, as it was: let a = c.args in (
---       omega arith,
---       over-turn a.prediction a.residue c.loop-i.i _ _ c.loop-i.invariant.1 c.over-arg-1.given c.over-n.ensures,
---       omega (arith, one c),
---     )
+pub loop-i-preserved : goal.loop-i-preserved
+loop-i-preserved c =
+    let a = c.args in
+    let l = c.loop-i in (
+      omega arith,
+      over-turn a.prediction a.residue l.i _ _ l.invariant.1 c.over-arg-1.given c.over-n.ensures,
+      omega (arith, one c),
+    )
 
 pub loop-i-init : goal.loop-i-init
 unfolding total

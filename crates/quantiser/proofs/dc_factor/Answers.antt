@@ -5,16 +5,13 @@ use Rattle.rfc6386.proofs.Quantiser.{dc-rising}
 use Rattle.quantiser.proofs.Read.{index_read, factor-read}
 use Rattle.quantiser.proofs.dc_factor.Goals as goal
 
--- in_table : tie.Need-array-copy-out-result
--- in_table c = index_read _ c.before.args.q c.clamp-qindex.ensures
-
 pub returns : goal.returns
 unfolding dc_factor dc_lookup
 returns c =
     factor-read dc_lookup 157 dc-rising tt _ c.args.q c.ranges.q c.clamp_qindex-i.ensures
 
 pub offset_bounds-i : goal.offset_bounds-i
-offset_bounds-i c = omega (arith, in_table c)
+offset_bounds-i c = omega (arith, index_read _ c.args.q c.clamp_qindex-i.ensures)
 
 pub bounds-i : goal.bounds-i
-bounds-i c = in_table c
+bounds-i c = index_read _ c.args.q c.clamp_qindex-i.ensures

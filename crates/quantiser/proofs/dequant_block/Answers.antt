@@ -1,13 +1,10 @@
 -- `quantiser::dequant_block` meets its contract: before turn k the first k coefficients are the dequantised block's. Assumes nothing.
 use mathlib.Core.Path.{◌≡◌, sym, ◌∙◌}
-use Prim.Native.Nat.{◌-◌}
 use native.Mathlib.Omega.{arith}
 use lib.IntN.{pos}
-use lib.ListN.{length, get_or}
+use lib.ListN.{get_or}
 use lib.Seq.{take_all}
-use mir.Val.{to_z}
 use mir.Facts.{to_z-of_z}
-use Rattle.lists.specs.Lists.{table}
 use Rattle.lists.proofs.Table.{table_none, table-turn, table_done, table-take}
 use Rattle.whole.proofs.Held.{R16}
 use Rattle.rfc6386.specs.Quantiser.{dequantised}
@@ -17,21 +14,27 @@ use borrow.Author.Rules.{rules}
 use Rattle.quantiser.proofs.dequant_block.Invariants.{at}
 use Rattle.quantiser.proofs.dequant_block.Goals as goal
 
--- loop-k-init, as it was: let a = c.args in
---     let f = at a.coeffs (R16 a.dc_factor) (R16 a.ac_factor) in
---     let e = product-read _ (get_or a.coeffs 0 (pos 0)) (R16 a.dc_factor) c.dequant-x.type_inv c.dequant-arg-1.given c.dequant-x.ensures in (
---       omega arith,
---       omega arith,
---       search rules,
---       table-turn 0 f _ a.coeffs a.coeffs (table_none f a.coeffs) (e ∙ sym (dequantised-first a.coeffs (R16 a.dc_factor) (R16 a.ac_factor))) (search rules),
---     )
+pub loop-k-init : goal.loop-k-init
+loop-k-init c =
+    let a = c.args in
+    let f = at a.coeffs (R16 a.dc_factor) (R16 a.ac_factor) in
+    let whole : R16 (get_or a.coeffs 0 (pos 0)) ≡ get_or a.coeffs 0 (pos 0) = search rules in
+    let e = product-read _ _ (R16 a.dc_factor) c.dequant-x.type_inv whole c.dequant-x.ensures in (
+      omega arith,
+      omega arith,
+      search rules,
+      table-turn 0 f _ a.coeffs a.coeffs (table_none f a.coeffs) (e ∙ sym (dequantised-first a.coeffs (R16 a.dc_factor) (R16 a.ac_factor))) (search rules),
+    )
 
--- loop-k-preserved, as it was: let i = c.loop-k in
---     let a = c.args in
---     let f = at a.coeffs (R16 a.dc_factor) (R16 a.ac_factor) in
---     let e = product-read _ (get_or a.coeffs i.k (pos 0)) (R16 a.ac_factor) c.dequant-v.type_inv c.dequant-arg-in-loop-k-1.given c.dequant-v.ensures in
---     let later = dequantised-later a.coeffs (R16 a.dc_factor) (R16 a.ac_factor) i.k i.invariant.0 in
---     (omega arith, omega arith, i.invariant.2, table-turn i.k f _ a.coeffs i.b i.invariant.3 (e ∙ sym later) (omega arith))
+pub loop-k-preserved : goal.loop-k-preserved
+loop-k-preserved c =
+    let i = c.loop-k in
+    let a = c.args in
+    let f = at a.coeffs (R16 a.dc_factor) (R16 a.ac_factor) in
+    let whole : R16 (get_or a.coeffs i.k (pos 0)) ≡ get_or a.coeffs i.k (pos 0) = search rules in
+    let e = product-read _ _ (R16 a.ac_factor) c.dequant-v.type_inv whole c.dequant-v.ensures in
+    let later = dequantised-later a.coeffs (R16 a.dc_factor) (R16 a.ac_factor) i.k i.invariant.0 in
+    (omega arith, omega arith, i.invariant.2, table-turn i.k f _ a.coeffs i.b i.invariant.3 (e ∙ sym later) (omega arith))
 
 pub returns : goal.returns
 returns c =

@@ -12,10 +12,12 @@ use borrow.Author.Rules.{rules}
 use Rattle.wht.proofs.widened.Invariants.{at}
 use Rattle.wht.proofs.widened.Goals as goal
 
--- loop-k-preserved, as it was: let i = c.loop-k in
---     let x = c.args.input in
---     let e = held32 c.widen-v.result c.widen-v.type_inv ∙ c.widen-v.ensures ∙ held16 (at x i.k) c.widen-arg-1.given in
---     (omega arith, i.invariant.1, table-turn i.k (at x) _ _ i.t i.invariant.2 e (omega arith))
+pub loop-k-preserved : goal.loop-k-preserved
+loop-k-preserved c =
+    let i = c.loop-k in
+    let x = c.args.input in
+    let e = held32 c.widen-v.result c.widen-v.type_inv ∙ c.widen-v.ensures ∙ held16 (at x i.k) c.widen-arg-1.given in
+    (omega arith, i.invariant.1, table-turn i.k (at x) _ _ i.t i.invariant.2 e (omega arith))
 
 pub loop-k-init : goal.loop-k-init
 loop-k-init c = (omega arith, search rules, table_none _ _)

@@ -28,5 +28,5 @@ module _ (t : List ℕ) (last : ℕ) (rule : Rising t last) (small : T (ltb last
       (held16 (pos (get_or t r 0)) (omega (arith, ltb→lt last 32768 small))
       ∙ ap (λ (i : ℕ). pos (get_or t i 0)) (e ∙ ap clamp_index (to_z-of_z f)))
 
-pub product-read : (r x f : ℤ) → mag r < 32768 → mag x < 32768 → r ≡ dequant (R16 x) f → R16 r ≡ dequant x f
-product-read r x f h k e = held16 r h ∙ e ∙ ap (λ (y : ℤ). dequant y f) (held16 x k)
+pub product-read : (r x f : ℤ) → mag r < 32768 → R16 x ≡ x → r ≡ dequant (R16 x) f → R16 r ≡ dequant x f
+product-read r x f h k e = held16 r h ∙ e ∙ ap (λ (y : ℤ). dequant y f) k

@@ -1,0 +1,14 @@
+-- `macroblock::bytes::y_mode` meets its contract: the mode of what the byte says. Assumes nothing.
+use mathlib.Core.Path.{ap}
+use Prim.Native.Nat.{ℕ}
+use Rattle.macroblock.specs.declared.modes.IntraYMode.{IntraYMode}
+use Rattle.macroblock.specs.Says.{y_mode}
+use Rattle.macroblock.proofs.bytes.y_mode.Goals as goal
+
+pub returns-in-Mode : goal.returns-in-Mode
+unfolding y_mode
+returns-in-Mode c = ap (λ (w : ℕ × IntraYMode). w.1) c.in-Mode.ensures
+
+pub returns-in-Unknown : goal.returns-in-Unknown
+unfolding y_mode
+returns-in-Unknown c = ap (λ (w : ℕ × IntraYMode). w.1) c.in-Unknown.ensures

@@ -1,0 +1,10 @@
+-- `slices::copy_all` meets its contract. Assumes nothing.
+use Prim.Native.Nat.{◌≤◌, ◌-◌}
+use mathlib.Core.Path.{◌≡◌}
+use mathlib.Core.List.{◌++◌}
+use lib.ListN.{get_or, length, drop}
+use Rattle.lists.specs.Lists.{table}
+use Rattle.slices.proofs.copy_all.Given as goal
+
+abbrev pub invariant-loop-i : goal.invariant-loop-i
+invariant-loop-i l = (l.i ≤ l.n) × ((l.to ≡ table l.i (λ k. get_or l.from k 0) ++ drop l.i l.initial.to) × (length l.to ≡ length l.initial.to))

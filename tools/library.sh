@@ -6,9 +6,23 @@ version() {
     sed -n 's/^#define ZOPREDIL_VERSION "\(.*\)"$/\1/p' include/zopredil.h
 }
 
-# sum_of PATH..: one sum over the names and the bytes of all files under the paths.
+# sum_of PATH..: one sum over the names and the bytes of all files under the paths, but for what rt keeps in folders out/.
 sum_of() {
-    find "$@" -type f -exec sha256sum {} + | LC_ALL=C sort | sha256sum | cut -d ' ' -f 1
+    find "$@" -type d -name out -prune -o -type f -exec sha256sum {} + | LC_ALL=C sort | sha256sum | cut -d ' ' -f 1
+}
+
+# below NAME: the crates that a crate stands on, and itself, one to a line
+below() {
+    awk -v name="$1" '
+        { sub(/#.*/, ""); split($0, part, ":"); split(part[1], word, " "); if (word[1] != "") uses[word[1]] = part[2] }
+        function visit(crate,    list, count, k) {
+            if (!(crate in uses) || crate in seen) return
+            seen[crate]
+            count = split(uses[crate], list, " ")
+            for (k = 1; k <= count; k++) visit(list[k])
+            print crate
+        }
+        END { visit(name) }' crates.txt
 }
 
 # The archive of this repository, and beside it two sums: of what it was proved from, and its own.

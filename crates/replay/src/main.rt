@@ -14,12 +14,11 @@ mod report;
 mod sample;
 mod transforms;
 
-fn main() {
-    let fd = os::open_read(b"sample.bin");
-    if fd < 0 {
-        os::fail(b"sample.bin");
-        return;
+use std::{fs, io};
+
+fn main(rt: HostRuntime) -> io::Result<()> {
+    match fs::open(&rt, "sample.bin") {
+        Ok(mut file) => sample::replay(&rt, &mut file),
+        Err(error) => reading::fail(&rt, "sample.bin", error),
     }
-    sample::replay(fd);
-    libc::close(fd);
 }

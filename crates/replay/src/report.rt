@@ -1,6 +1,7 @@
 // How far the replay came, and what is printed of it.
 use crate::numbers::wide;
 use checksum::Checksum;
+use std::io;
 
 // Outcomes.
 pub const GOING: u8 = 0;
@@ -71,36 +72,32 @@ pub fn count(counts: &mut [u64; 18], kind: u8) {
     }
 }
 
-fn print_count(kind: usize, n: u64) {
-    io::write_all(1, b"kind ");
-    io::print_decimal(1, kind as u64);
-    io::write_all(1, b": ");
-    io::print_decimal(1, n);
-    io::write_all(1, b"\n");
+fn print_count(rt: &impl Print, kind: usize, n: u64) -> io::Result<()> {
+    println!(rt; "kind {kind}: {n}")
 }
 
-fn print_counts(counts: &[u64; 18]) {
+fn print_counts(rt: &impl Print, counts: &[u64; 18]) -> io::Result<()> {
     for kind in 1..18 {
-        print_count(kind, counts[kind]);
+        print_count(rt, kind, counts[kind])?;
     }
+    Ok(())
 }
 
-fn print_outcome(outcome: u8) {
+fn print_outcome(rt: &impl Print, outcome: u8) -> io::Result<()> {
     if outcome == WHOLE {
-        io::write_all(1, b": the end, and the checksum is right\n");
+        println!(rt; ": the end, and the checksum is right")
     } else if outcome == DIFFERS {
-        io::write_all(1, b": another answer\n");
+        println!(rt; ": another answer")
     } else {
-        io::write_all(1, b": not of the format, or the checksum is wrong\n");
+        println!(rt; ": not of the format, or the checksum is wrong")
     }
 }
 
 // How many records of each kind agreed, and where the replay stopped: records are numbered from 0.
-pub fn print(counts: &[u64; 18], at: Progress) {
-    print_counts(counts);
-    io::write_all(1, b"record ");
-    io::print_decimal(1, at.records);
-    io::write_all(1, b", kind ");
-    io::print_decimal(1, wide(at.kind) as u64);
-    print_outcome(at.outcome);
+pub fn print(rt: &impl Print, counts: &[u64; 18], at: Progress) -> io::Result<()> {
+    print_counts(rt, counts)?;
+    let records = at.records;
+    let kind = at.kind;
+    print!(rt; "record {records}, kind {kind}")?;
+    print_outcome(rt, at.outcome)
 }

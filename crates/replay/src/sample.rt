@@ -2,17 +2,20 @@
 use crate::report::Progress;
 use crate::{kinds, numbers, report};
 use checksum::Checksum;
+use reading::read_full;
+use std::io;
+use std::io::Read;
 
 // After kind 0: the checksum's two sums, and then nothing.
-fn end_follows(fd: i32, sum: Checksum) -> bool {
+fn end_follows(input: &mut impl Read, sum: Checksum) -> io::Result<bool> {
     let mut bytes = [0u8; 5];
-    if io::read_full(fd, &mut bytes) != 4 {
-        return false;
+    if read_full(input, &mut bytes)? != 4 {
+        return Ok(false);
     }
     if numbers::length(&bytes, 0) != sum.a {
-        return false;
+        return Ok(false);
     }
-    numbers::length(&bytes, 2) == sum.b
+    Ok(numbers::length(&bytes, 2) == sum.b)
 }
 
 // Whether a record agrees. One of kind 13 is kept in `planes`, for those that follow.
@@ -25,52 +28,56 @@ fn agrees(kind: u8, record: &[u8], planes: &mut [u8]) -> bool {
 }
 
 // The rest of a record, after its kind.
-fn record_follows(fd: i32, planes: &mut [u8], before: Progress) -> Progress {
+fn record_follows(
+    input: &mut impl Read,
+    planes: &mut [u8],
+    before: Progress,
+) -> io::Result<Progress> {
     let n = kinds::length(before.kind);
     if n == 0 {
-        return report::stopped(before, report::NO_FORMAT);
+        return Ok(report::stopped(before, report::NO_FORMAT));
     }
-    let mut record = io::buffer();
-    if io::read_full(fd, numbers::first_to_write(&mut record, n)) != n {
-        return report::stopped(before, report::NO_FORMAT);
+    let mut record = [0u8; 4096];
+    if read_full(input, numbers::first_to_write(&mut record, n))? != n {
+        return Ok(report::stopped(before, report::NO_FORMAT));
     }
     if !agrees(before.kind, &record, planes) {
-        return report::stopped(before, report::DIFFERS);
+        return Ok(report::stopped(before, report::DIFFERS));
     }
-    report::agreed(before, numbers::part(&record, 0, n))
+    Ok(report::agreed(before, numbers::part(&record, 0, n)))
 }
 
 // One record, or the end.
-fn turn(fd: i32, planes: &mut [u8], before: Progress) -> Progress {
+fn turn(input: &mut impl Read, planes: &mut [u8], before: Progress) -> io::Result<Progress> {
     let mut first = [0u8; 1];
-    if io::read_full(fd, &mut first) != 1 {
-        return report::stopped(before, report::NO_FORMAT);
+    if read_full(input, &mut first)? != 1 {
+        return Ok(report::stopped(before, report::NO_FORMAT));
     }
     let kind = first[0];
     let at = report::with_kind(before, kind);
     if kind != 0 {
-        return record_follows(fd, planes, at);
+        return record_follows(input, planes, at);
     }
     let sum = at.sum;
-    if end_follows(fd, sum) {
-        return report::stopped(at, report::WHOLE);
+    if end_follows(input, sum)? {
+        return Ok(report::stopped(at, report::WHOLE));
     }
-    report::stopped(at, report::NO_FORMAT)
+    Ok(report::stopped(at, report::NO_FORMAT))
 }
 
 // A proved loop has to end, and nothing says that a file does: this one takes a million records at most.
-pub fn replay(fd: i32) {
-    let mut planes = io::buffer();
+pub fn replay(rt: &impl Print, input: &mut impl Read) -> io::Result<()> {
+    let mut planes = [0u8; 4096];
     let mut counts = [0u64; 18];
     let mut at = report::start();
     for _ in 0..1000000usize {
         if at.outcome != report::GOING {
             break;
         }
-        at = turn(fd, &mut planes, at);
+        at = turn(input, &mut planes, at)?;
         if at.outcome == report::GOING {
             report::count(&mut counts, at.kind);
         }
     }
-    report::print(&counts, at);
+    report::print(rt, &counts, at)
 }

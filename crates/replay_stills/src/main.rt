@@ -10,10 +10,12 @@ mod numbers;
 mod scattered;
 mod still_file;
 
-fn main() {
-    still_file::replay(b"webp-16x16.still", b"webp-16x16.planes");
-    still_file::replay(b"vpx-33x31.still", b"vpx-33x31.planes");
-    still_file::replay(b"webp-64x64.still", b"webp-64x64.planes");
-    still_file::replay(b"vpx-200x16.still", b"vpx-200x16.planes");
-    still_file::replay(b"webp-noisy-176x32.still", b"webp-noisy-176x32.planes");
+use std::io;
+
+fn main(rt: HostRuntime) -> io::Result<()> {
+    still_file::replay(&rt, "webp-16x16.still", "webp-16x16.planes")?;
+    still_file::replay(&rt, "vpx-33x31.still", "vpx-33x31.planes")?;
+    still_file::replay(&rt, "webp-64x64.still", "webp-64x64.planes")?;
+    still_file::replay(&rt, "vpx-200x16.still", "vpx-200x16.planes")?;
+    still_file::replay(&rt, "webp-noisy-176x32.still", "webp-noisy-176x32.planes")
 }

@@ -3,17 +3,18 @@ ghost use Rattle.std.specs.Prelude.{◌≤◌};
 
 use crate::loose;
 use crate::numbers::{part, part_to_write, shorts, shorts_part, size};
+use std::rt::Files;
+use std::{fs, io};
 
-// Reads a file, and answers its length.
-fn read(name: &[u8], bytes: &mut [u8]) -> usize {
-    let fd = os::open_read(name);
-    if fd < 0 {
-        os::fail(name);
-        return 0;
+// Reads a file, and answers its length; 0 for one that cannot be opened, after a line that says why.
+fn read(rt: &(impl Files + Eprint + Alloc), name: &str, bytes: &mut [u8]) -> io::Result<usize> {
+    match fs::open(rt, name) {
+        Ok(mut file) => reading::read_full(&mut file, bytes),
+        Err(error) => {
+            reading::fail(rt, name, error)?;
+            Ok(0)
+        }
     }
-    let n = io::read_full(fd, bytes);
-    libc::close(fd);
-    n
 }
 
 // The number of macroblocks that a still file and its planes have by their lengths; 0 where the two do not fit.
@@ -101,36 +102,34 @@ fn agrees(
     same_planes(planes, n, y, u, v)
 }
 
-fn print(text: &[u8], n: usize) {
-    io::write_all(1, text);
-    io::print_decimal(1, n as u64);
+fn print(rt: &impl Print, text: &str, n: usize) -> io::Result<()> {
+    print!(rt; "{text}{n}")
 }
 
 // A file's checksum: bytes that no pixel depends on count too.
-fn print_checksum(bytes: &[u8]) {
+fn print_checksum(rt: &impl Print, bytes: &[u8]) -> io::Result<()> {
     let sum = checksum::with_bytes(checksum::start(), bytes);
-    print(b", checksum ", sum.a);
-    print(b" ", sum.b);
+    print(rt, ", checksum ", sum.a)?;
+    print(rt, " ", sum.b)
 }
 
-fn print_sizes(still: &[u8]) {
-    print(b" ", size(still, 8));
-    print(b"x", size(still, 12));
-    print(b", ", size(still, 16));
-    print(b" by ", size(still, 20));
+fn print_sizes(rt: &impl Print, still: &[u8]) -> io::Result<()> {
+    print(rt, " ", size(still, 8))?;
+    print(rt, "x", size(still, 12))?;
+    print(rt, ", ", size(still, 16))?;
+    print(rt, " by ", size(still, 20))
 }
 
-fn print_verdict(text: &[u8], agrees: bool) {
-    io::write_all(1, text);
+fn print_verdict(rt: &impl Print, text: &str, agrees: bool) -> io::Result<()> {
     if agrees {
-        io::write_all(1, b"equal");
+        print!(rt; "{text}equal")
     } else {
-        io::write_all(1, b"DIFFERENT");
+        print!(rt; "{text}DIFFERENT")
     }
 }
 
 // Draws the still of n macroblocks, then its macroblocks by themselves.
-fn print_verdicts(still: &[u8], planes: &[u8], n: usize)
+fn print_verdicts(rt: &impl Print, still: &[u8], planes: &[u8], n: usize) -> io::Result<()>
     requires { n ≤ 22 }
 {
     let mut y = [0u8; 5632];
@@ -138,7 +137,7 @@ fn print_verdicts(still: &[u8], planes: &[u8], n: usize)
     let mut v = [0u8; 1408];
     let mut clipped = [0u64; 1];
     let drawn = agrees(still, planes, n, &mut y, &mut u, &mut v, &mut clipped);
-    print_verdict(b": ", drawn);
+    print_verdict(rt, ": ", drawn)?;
     let loose = loose::judge(
         still,
         n,
@@ -147,24 +146,34 @@ fn print_verdicts(still: &[u8], planes: &[u8], n: usize)
         part(&v, 0, 64 * n),
         clipped[0],
     );
-    print_verdict(b"; loose: ", loose.equal);
-    print_verdict(b"; one damaged: ", loose.damaged_equal);
-    io::write_all(1, b"\n");
+    print_verdict(rt, "; loose: ", loose.equal)?;
+    print_verdict(rt, "; one damaged: ", loose.damaged_equal)?;
+    println!(rt)
 }
 
-fn replay_into(name: &[u8], planes_name: &[u8], still: &mut [u8], planes: &mut [u8]) {
-    let still_length = read(name, still);
-    let planes_length = read(planes_name, planes);
-    io::write_all(1, name);
-    print_sizes(still);
-    print_checksum(part(still, 0, still_length));
-    print_checksum(part(planes, 0, planes_length));
+fn replay_into(
+    rt: &(impl Files + Print + Eprint + Alloc),
+    name: &str,
+    planes_name: &str,
+    still: &mut [u8],
+    planes: &mut [u8],
+) -> io::Result<()> {
+    let still_length = read(rt, name, still)?;
+    let planes_length = read(rt, planes_name, planes)?;
+    print!(rt; "{name}")?;
+    print_sizes(rt, still)?;
+    print_checksum(rt, part(still, 0, still_length))?;
+    print_checksum(rt, part(planes, 0, planes_length))?;
     let n = macroblocks(still_length, planes_length);
-    print_verdicts(still, planes, n);
+    print_verdicts(rt, still, planes, n)
 }
 
-pub fn replay(name: &[u8], planes_name: &[u8]) {
-    let mut still = io::large_buffer();
-    let mut planes = io::large_buffer();
-    replay_into(name, planes_name, &mut still, &mut planes);
+pub fn replay(
+    rt: &(impl Files + Print + Eprint + Alloc),
+    name: &str,
+    planes_name: &str,
+) -> io::Result<()> {
+    let mut still = [0u8; 65536];
+    let mut planes = [0u8; 65536];
+    replay_into(rt, name, planes_name, &mut still, &mut planes)
 }

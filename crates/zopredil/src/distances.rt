@@ -3,15 +3,14 @@ ghost use Rattle.std.specs.Prelude.{◌≡◌};
 ghost use Rattle.lists.specs.Lists.{◌beside◌};
 ghost use Rattle.distance.specs.Answer.{distance_answer};
 
-#[unsafe(no_mangle)]
-pub extern "C" fn zopredil_distance(
+pub fn zopredil_distance(
     sizes: &[u32],
     drawn: &[u8],
     measured: &[u8],
     reports: &mut [u64],
     totals: &mut [u64],
 ) -> u32
-    ensures { (result beside (λ x. x.now) reports.exit beside (λ x. x.now) totals.exit)
+    ensures { (result beside reports.new beside totals.new)
         ≡ distance_answer sizes.now drawn.now measured.now reports.old totals.old }
 {
     distance::distance(sizes, drawn, measured, reports, totals)

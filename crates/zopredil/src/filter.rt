@@ -2,8 +2,7 @@
 ghost use Rattle.std.specs.Prelude.{◌≡◌};
 ghost use Rattle.loop_filter.specs.Answers.{filter_answer, levels_answer};
 
-#[unsafe(no_mangle)]
-pub extern "C" fn zopredil_filter(
+pub fn zopredil_filter(
     cols: usize,
     rows: usize,
     kind: u8,
@@ -20,8 +19,7 @@ pub extern "C" fn zopredil_filter(
     loop_filter::filter(cols, rows, kind, level, sharpness, inner, y, u, v)
 }
 
-#[unsafe(no_mangle)]
-pub extern "C" fn zopredil_filter_levels(
+pub fn zopredil_filter_levels(
     cols: usize,
     rows: usize,
     kind: u8,

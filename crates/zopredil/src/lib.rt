@@ -1,6 +1,5 @@
-// The C interface, include/zopredil.h: numbers pass as themselves, a slice as pointer and length. Every function answers with
-// a reply, and its promise is one equation to a definition of specs/: what it answers, beside what it leaves in the slices
-// that it writes.
+// The calls of the C interface, include/zopredil.h, which crates/zopredil_c exports. Every function answers with a reply, and
+// its promise is one equation to a definition of specs/: what it answers, beside what it leaves in the slices that it writes.
 #![tactic(auto)]
 
 pub mod distances;

@@ -47,8 +47,7 @@ fn lengths_fit(
 // above 255. Refused, in this order: a slice of another length (reply 1, nothing written), a mode, skip or mark byte that says
 // nothing, in luma mode B a sub-block byte too (8, zeros written), luma mode B without sub-block modes (4, zeros written); the
 // count is 0 then.
-#[unsafe(no_mangle)]
-pub extern "C" fn zopredil_macroblock(
+pub fn zopredil_macroblock(
     modes: &[u8],
     sub_modes: &[u8],
     record: &[u8],
@@ -56,7 +55,7 @@ pub extern "C" fn zopredil_macroblock(
     out: &mut [u8],
     clipped: &mut [u64],
 ) -> u32
-    ensures { (result beside (λ x. x.now) out.exit beside (λ x. x.now) clipped.exit)
+    ensures { (result beside out.new beside clipped.new)
         ≡ mb_answer modes.now sub_modes.now «record».now coeffs.now out.old clipped.old }
 {
     let fit = lengths_fit(
@@ -99,8 +98,7 @@ pub extern "C" fn zopredil_macroblock(
 }
 
 // A shelf of loose macroblocks: `shelf_items::shelf_bytes`.
-#[unsafe(no_mangle)]
-pub extern "C" fn zopredil_shelf(
+pub fn zopredil_shelf(
     modes: &[u8],
     records: &[u8],
     sub_modes: &[u8],
@@ -109,7 +107,7 @@ pub extern "C" fn zopredil_shelf(
     replies: &mut [u8],
     clipped: &mut [u64],
 ) -> u32
-    ensures { (result beside (λ x. x.now) out.exit beside (λ x. x.now) replies.exit beside (λ x. x.now) clipped.exit)
+    ensures { (result beside out.new beside replies.new beside clipped.new)
         ≡ bytes_answer modes.now records.now sub_modes.now coeffs.now
         out.old replies.old clipped.old }
 {

@@ -7,8 +7,7 @@ use macroblock::reply;
 
 // The neighbour record as 81 bytes. Refused first: a record of another length than 81 or right-hand pixels of another number than 4 (1, nothing written);
 // then as `gathering::gather` refuses, the record all zeros: every edge absent.
-#[unsafe(no_mangle)]
-pub extern "C" fn zopredil_gather(
+pub fn zopredil_gather(
     y: &[u8],
     u: &[u8],
     v: &[u8],
@@ -19,7 +18,7 @@ pub extern "C" fn zopredil_gather(
     right: &[u8],
     record: &mut [u8],
 ) -> u32
-    ensures { (result beside (λ x. x.now) «record».exit)
+    ensures { (result beside «record».new)
         ≡ gather_answer y.now u.now v.now cols rows col row right.now «record».old }
 {
     if record.len() != 81 {
@@ -36,15 +35,8 @@ pub extern "C" fn zopredil_gather(
 
 // The four pixels above right of the last column of macroblock row `row`. Refused first: a slice of another length than 4
 // (1, nothing written); then as `right_pixels::right_pixels` refuses, the slice zeros.
-#[unsafe(no_mangle)]
-pub extern "C" fn zopredil_right_pixels(
-    y: &[u8],
-    cols: usize,
-    rows: usize,
-    row: usize,
-    out: &mut [u8],
-) -> u32
-    ensures { (result beside (λ x. x.now) out.exit) ≡ right_answer y.now cols rows row out.old }
+pub fn zopredil_right_pixels(y: &[u8], cols: usize, rows: usize, row: usize, out: &mut [u8]) -> u32
+    ensures { (result beside out.new) ≡ right_answer y.now cols rows row out.old }
 {
     if out.len() != 4 {
         return reply::WRONG_LENGTH;

@@ -2,15 +2,13 @@
 ghost use Rattle.std.specs.Prelude.{◌≡◌};
 ghost use Rattle.partition.specs.Answers.{start_answer, tokens_answer};
 
-#[unsafe(no_mangle)]
-pub extern "C" fn zopredil_bool_start(partition: &[u8], state: &mut [u64]) -> u32
+pub fn zopredil_bool_start(partition: &[u8], state: &mut [u64]) -> u32
     ensures { (result, state.new) ≡ start_answer partition.now state.old }
 {
     partition::bool_start(partition, state)
 }
 
-#[unsafe(no_mangle)]
-pub extern "C" fn zopredil_tokens(
+pub fn zopredil_tokens(
     partition: &[u8],
     probabilities: &[u8],
     y2: u8,

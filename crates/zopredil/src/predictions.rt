@@ -29,15 +29,8 @@ fn lengths_fit(n: usize, block: usize, above: usize, left: usize, out: usize) ->
 }
 
 // 16x16 luma: edges of 16, or empty where they are absent; 256 pixels out. Mode B is refused (reply 3, zeros written).
-#[unsafe(no_mangle)]
-pub extern "C" fn zopredil_predict_y16x16(
-    mode: u8,
-    above: &[u8],
-    left: &[u8],
-    p: u8,
-    out: &mut [u8],
-) -> u32
-    ensures { (result beside (λ x. x.now) out.exit) ≡ luma_answer mode above.now left.now p out.old }
+pub fn zopredil_predict_y16x16(mode: u8, above: &[u8], left: &[u8], p: u8, out: &mut [u8]) -> u32
+    ensures { (result beside out.new) ≡ luma_answer mode above.now left.now p out.old }
 {
     if !lengths_fit(16, 256, above.len(), left.len(), out.len()) {
         return reply::WRONG_LENGTH;
@@ -56,15 +49,8 @@ pub extern "C" fn zopredil_predict_y16x16(
 }
 
 // 8x8 chroma: edges of 8, or empty where they are absent; 64 pixels out.
-#[unsafe(no_mangle)]
-pub extern "C" fn zopredil_predict_uv8x8(
-    mode: u8,
-    above: &[u8],
-    left: &[u8],
-    p: u8,
-    out: &mut [u8],
-) -> u32
-    ensures { (result beside (λ x. x.now) out.exit) ≡ chroma_answer mode above.now left.now p out.old }
+pub fn zopredil_predict_uv8x8(mode: u8, above: &[u8], left: &[u8], p: u8, out: &mut [u8]) -> u32
+    ensures { (result beside out.new) ≡ chroma_answer mode above.now left.now p out.old }
 {
     if !lengths_fit(8, 64, above.len(), left.len(), out.len()) {
         return reply::WRONG_LENGTH;
@@ -82,15 +68,8 @@ pub extern "C" fn zopredil_predict_uv8x8(
 }
 
 // A 4x4 luma sub-block: eight pixels above, four on the left, 16 pixels out.
-#[unsafe(no_mangle)]
-pub extern "C" fn zopredil_predict_b4x4(
-    mode: u8,
-    above: &[u8],
-    left: &[u8],
-    p: u8,
-    out: &mut [u8],
-) -> u32
-    ensures { (result beside (λ x. x.now) out.exit) ≡ sub_block_answer mode above.now left.now p out.old }
+pub fn zopredil_predict_b4x4(mode: u8, above: &[u8], left: &[u8], p: u8, out: &mut [u8]) -> u32
+    ensures { (result beside out.new) ≡ sub_block_answer mode above.now left.now p out.old }
 {
     if above.len() != 8 {
         return reply::WRONG_LENGTH;

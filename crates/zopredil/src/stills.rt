@@ -24,8 +24,7 @@ fn early(cols: usize, rows: usize) -> u64
 }
 
 // `still::still`; `clipped` has one place, for the count of the finished macroblocks' sums that were below 0 or above 255.
-#[unsafe(no_mangle)]
-pub extern "C" fn zopredil_still(
+pub fn zopredil_still(
     cols: usize,
     rows: usize,
     modes: &[u8],
@@ -37,7 +36,7 @@ pub extern "C" fn zopredil_still(
     v: &mut [u8],
     clipped: &mut [u64],
 ) -> u64
-    ensures { (result beside (λ x. x.now) y.exit beside (λ x. x.now) u.exit beside (λ x. x.now) v.exit beside (λ x. x.now) clipped.exit)
+    ensures { (result beside y.new beside u.new beside v.new beside clipped.new)
         ≡ still_number cols rows modes.now sub_modes.now coeffs.now right.now
         y.old u.old v.old clipped.old }
 {
@@ -50,8 +49,7 @@ pub extern "C" fn zopredil_still(
 }
 
 // `still::still_alone`.
-#[unsafe(no_mangle)]
-pub extern "C" fn zopredil_still_alone(
+pub fn zopredil_still_alone(
     cols: usize,
     rows: usize,
     modes: &[u8],
@@ -62,7 +60,7 @@ pub extern "C" fn zopredil_still_alone(
     v: &mut [u8],
     clipped: &mut [u64],
 ) -> u64
-    ensures { (result beside (λ x. x.now) y.exit beside (λ x. x.now) u.exit beside (λ x. x.now) v.exit beside (λ x. x.now) clipped.exit)
+    ensures { (result beside y.new beside u.new beside v.new beside clipped.new)
         ≡ alone_number cols rows modes.now sub_modes.now coeffs.now
         y.old u.old v.old clipped.old }
 {

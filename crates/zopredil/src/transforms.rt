@@ -9,9 +9,8 @@ use mb_factors::MbDequantFactors;
 use quantiser::Y1DequantFactors;
 
 // The luma factors of a quantiser index and its delta: dc, ac. Refused: an index sum outside 32 bits (reply 5; both 0).
-#[unsafe(no_mangle)]
-pub extern "C" fn zopredil_y1_factors(yac_qi: i32, ydc_delta: i32, out: &mut [i16]) -> u32
-    ensures { (result beside (λ x. x.now) out.exit) ≡ factors_answer yac_qi ydc_delta out.old }
+pub fn zopredil_y1_factors(yac_qi: i32, ydc_delta: i32, out: &mut [i16]) -> u32
+    ensures { (result beside out.new) ≡ factors_answer yac_qi ydc_delta out.old }
 {
     if out.len() != 2 {
         return reply::WRONG_LENGTH;
@@ -25,9 +24,8 @@ pub extern "C" fn zopredil_y1_factors(yac_qi: i32, ydc_delta: i32, out: &mut [i1
 }
 
 // A block of sixteen, dequantised where it stands.
-#[unsafe(no_mangle)]
-pub extern "C" fn zopredil_dequant_block(coeffs: &mut [i16], dc: i16, ac: i16) -> u32
-    ensures { (result beside (λ x. x.now) coeffs.exit) ≡ dequant_answer coeffs.old dc ac }
+pub fn zopredil_dequant_block(coeffs: &mut [i16], dc: i16, ac: i16) -> u32
+    ensures { (result beside coeffs.new) ≡ dequant_answer coeffs.old dc ac }
 {
     if coeffs.len() != 16 {
         return reply::WRONG_LENGTH;
@@ -40,8 +38,7 @@ pub extern "C" fn zopredil_dequant_block(coeffs: &mut [i16], dc: i16, ac: i16) -
 // The six factors of a base index and five deltas, and a macroblock's 400 coefficients dequantised by them where they stand. The
 // factors are y1_dc, y1_ac, y2_dc, y2_ac, uv_dc, uv_ac. Refused first: factors of another length than 6 (1, nothing
 // written); then as `dequant::dequantise` refuses (5, 1), with all six factors 0.
-#[unsafe(no_mangle)]
-pub extern "C" fn zopredil_dequantise(
+pub fn zopredil_dequantise(
     yac_qi: i32,
     ydc: i32,
     y2dc: i32,
@@ -51,7 +48,7 @@ pub extern "C" fn zopredil_dequantise(
     coeffs: &mut [i16],
     factors: &mut [i16],
 ) -> u32
-    ensures { (result beside (λ x. x.now) coeffs.exit beside (λ x. x.now) factors.exit)
+    ensures { (result beside coeffs.new beside factors.new)
         ≡ six_answer yac_qi ydc y2dc y2ac uvdc uvac coeffs.old factors.old }
 {
     if factors.len() != 6 {
@@ -81,9 +78,8 @@ fn store(out: &mut [i16], f: MbDequantFactors)
 }
 
 // The inverse WHT of sixteen.
-#[unsafe(no_mangle)]
-pub extern "C" fn zopredil_inverse_wht(input: &[i16], out: &mut [i16]) -> u32
-    ensures { (result beside (λ x. x.now) out.exit) ≡ wht_answer input.now out.old }
+pub fn zopredil_inverse_wht(input: &[i16], out: &mut [i16]) -> u32
+    ensures { (result beside out.new) ≡ wht_answer input.now out.old }
 {
     if input.len() != 16 {
         return reply::WRONG_LENGTH;
@@ -96,9 +92,8 @@ pub extern "C" fn zopredil_inverse_wht(input: &[i16], out: &mut [i16]) -> u32
 }
 
 // The inverse WHT of a DC alone.
-#[unsafe(no_mangle)]
-pub extern "C" fn zopredil_inverse_wht_dc_only(dc: i16, out: &mut [i16]) -> u32
-    ensures { (result beside (λ x. x.now) out.exit) ≡ wht_dc_answer dc out.old }
+pub fn zopredil_inverse_wht_dc_only(dc: i16, out: &mut [i16]) -> u32
+    ensures { (result beside out.new) ≡ wht_dc_answer dc out.old }
 {
     if out.len() != 16 {
         return reply::WRONG_LENGTH;
@@ -108,9 +103,8 @@ pub extern "C" fn zopredil_inverse_wht_dc_only(dc: i16, out: &mut [i16]) -> u32
 }
 
 // The inverse DCT of sixteen.
-#[unsafe(no_mangle)]
-pub extern "C" fn zopredil_inverse_dct(input: &[i16], out: &mut [i16]) -> u32
-    ensures { (result beside (λ x. x.now) out.exit) ≡ dct_answer input.now out.old }
+pub fn zopredil_inverse_dct(input: &[i16], out: &mut [i16]) -> u32
+    ensures { (result beside out.new) ≡ dct_answer input.now out.old }
 {
     if input.len() != 16 {
         return reply::WRONG_LENGTH;
@@ -124,8 +118,7 @@ pub extern "C" fn zopredil_inverse_dct(input: &[i16], out: &mut [i16]) -> u32
 
 // The inverse DCT of sixteen, added to block (sub_row, sub_col) of a plane. Refused: a block that does not lie in the plane
 // (reply 2). Into clipped, a slice of 1: how many of the sixteen sums were below 0 or above 255; 0 for a refused block.
-#[unsafe(no_mangle)]
-pub extern "C" fn zopredil_inverse_dct_add_into(
+pub fn zopredil_inverse_dct_add_into(
     input: &[i16],
     plane: &mut [u8],
     stride: usize,
@@ -133,7 +126,7 @@ pub extern "C" fn zopredil_inverse_dct_add_into(
     sub_col: usize,
     clipped: &mut [u64],
 ) -> u32
-    ensures { (result beside (λ x. x.now) plane.exit beside (λ x. x.now) clipped.exit)
+    ensures { (result beside plane.new beside clipped.new)
         ≡ add_into_answer input.now plane.old stride sub_row sub_col clipped.old }
 {
     if input.len() != 16 {
@@ -149,9 +142,8 @@ pub extern "C" fn zopredil_inverse_dct_add_into(
 }
 
 // Prediction plus residue, held within 0 and 255; the three lengths are equal.
-#[unsafe(no_mangle)]
-pub extern "C" fn zopredil_add_residue(prediction: &[u8], residue: &[i16], out: &mut [u8]) -> u32
-    ensures { (result beside (λ x. x.now) out.exit) ≡ residue_answer prediction.now residue.now out.old }
+pub fn zopredil_add_residue(prediction: &[u8], residue: &[i16], out: &mut [u8]) -> u32
+    ensures { (result beside out.new) ≡ residue_answer prediction.now residue.now out.old }
 {
     residue::add_residue(prediction, residue, out)
 }

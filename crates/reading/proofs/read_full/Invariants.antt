@@ -1,0 +1,6 @@
+-- What is read is never more than there is room for.
+use Rattle.std.proofs.Common.{◌≤◌, length}
+use Rattle.reading.proofs.read_full.Given as goal
+
+abbrev pub invariant-loop : goal.invariant-loop
+invariant-loop g l = l.done ≤ length l.buf

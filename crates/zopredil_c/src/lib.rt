@@ -1,0 +1,12 @@
+// The exports to C of include/zopredil.h: each calls the function of its name in crates/zopredil, and promises what that
+// promises. A number passes as itself, a slice as pointer and length.
+#![tactic(auto)]
+
+pub mod distances;
+pub mod filter;
+pub mod macroblocks;
+pub mod neighbours;
+pub mod partitions;
+pub mod predictions;
+pub mod stills;
+pub mod transforms;

@@ -23,7 +23,7 @@ returns-then-not-has_items-2 c =
     (sym c.has_items-2.ensures ∙ c.if-not-has_items-2.true)
 
 pub loop-i-init : goal.loop-i-init
-loop-i-init c = (omega arith, sym (out-zero _ _), sym (replies-zero _ _), sym (count-zero _ _), refl, refl, refl)
+loop-i-init c = (omega arith, sym (out-zero _ _), sym (replies-zero _ _), sym (count-zero _ _))
 
 pub put_bytes-requires : goal.put_bytes-requires
 put_bytes-requires c =
@@ -34,7 +34,7 @@ put_bytes-requires c =
     let er : length a.records.now ≡ 81 * length a.replies.now = eqb-true _ _ (sym c.has_items-2.ensures ∙ c.if-not-has_items-2.false) in
     let t = turn-ready (bytes_at a.modes.now a.records.now a.sub_modes.now a.coeffs.now)
     (bytes-shape a.modes.now a.records.now a.sub_modes.now a.coeffs.now)
-    _ _ _ _ _ a.clipped.now c.begin-plan.ensures.0 s.i c.loop-i-test.true s.invariant.4 s.invariant.5 c.begin-plan.ensures.1 s.invariant.3 in
+    _ _ _ _ _ a.clipped.now c.begin-plan.ensures.0 s.i c.loop-i-test.true s.auto.out s.auto.replies c.begin-plan.ensures.1 s.invariant.3 in
     (omega (arith, below, em, c.loop-i-test.true), omega (arith, below, er, c.loop-i-test.true), t.0, t.1, t.2)
 
 pub loop-i-preserved : goal.loop-i-preserved
@@ -46,9 +46,6 @@ loop-i-preserved c =
       out-turn item s.i _ _ _ refl s.invariant.1 c.put_bytes.ensures.0,
       replies-turn item s.i _ _ _ refl s.invariant.2 c.put_bytes.ensures.1,
       count_turn item s.i _ _ _ refl s.invariant.3 c.put_bytes.ensures.2,
-      omega (arith, c.out-1.given, s.invariant.4),
-      omega (arith, c.replies-1.given, s.invariant.5),
-      omega (arith, c.clipped-in-loop-i-1.given, s.invariant.6),
     )
 
 pub returns : goal.returns

@@ -1,7 +1,6 @@
 -- `shelf_items::shelf_bytes` meets its contract. Assumes nothing.
 use Prim.Native.Nat.{◌≤◌}
 use mathlib.Core.Path.{◌≡◌}
-use lib.ListN.{length}
 use Rattle.shelf_items.specs.Shelf.{bytes_at}
 use Rattle.shelf_items.proofs.Turns.{out_after, replies_after, count_after}
 use Rattle.shelf_items.proofs.shelf_bytes.Given as goal
@@ -11,6 +10,3 @@ invariant-loop-i l = (l.i ≤ l.i-end)
     × (l.out ≡ out_after (bytes_at l.modes l.records l.sub_modes l.coeffs) l.i l.initial.out)
     × (l.replies ≡ replies_after (bytes_at l.modes l.records l.sub_modes l.coeffs) l.i l.initial.replies)
     × (l.clipped ≡ count_after (bytes_at l.modes l.records l.sub_modes l.coeffs) l.i l.initial.clipped)
-    × (length l.out ≡ length l.initial.out)
-    × (length l.replies ≡ length l.initial.replies)
-    × (length l.clipped ≡ length l.initial.clipped)

@@ -1,5 +1,5 @@
 -- The bits of a partition. Assumes nothing.
-use Rattle.std.proofs.Common.{◌≡◌, ℕ, zero, suc, ◌+◌, ◌-◌, ◌*◌, ◌/◌, ◌%◌, ◌^◌, ◌<◌, ◌≤◌, List, [], ◌∷◌, length, get_or, sym, refl, ap, ◌∙◌, mul_assoc, add-mul, mul-one, add-one, arith, pow-add}
+use Rattle.std.proofs.Common.{◌≡◌, ℕ, zero, suc, ◌+◌, ◌-◌, ◌*◌, ◌/◌, ◌%◌, ◌^◌, ◌<◌, ◌≤◌, List, length, get_or, refl, ap, ◌∙◌, mul_assoc, arith}
 use native.Mathlib.Nat.{pow-succ', zero-div}
 use lib.ListN.{get_or-eq_default}
 use Rattle.bool_decoder.specs.BoolCoder.{bit_at}

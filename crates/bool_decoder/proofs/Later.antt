@@ -1,6 +1,6 @@
 -- What holds of everything that reads bools, whatever it reads: it only goes on through the partition; once past the end it is
 -- past the end for good; and the bytes behind those that the RFC has loaded change nothing. Assumes nothing.
-use Rattle.std.proofs.Common.{◌≡◌, ℕ, zero, suc, ◌+◌, ◌-◌, ◌*◌, ◌/◌, ◌%◌, ◌^◌, ◌<◌, ◌≤◌, Bool, true, false, ltb, leb, List, length, get_or, sym, refl, ap, ◌∙◌, arith, ltb-true, lt-ltb}
+use Rattle.std.proofs.Common.{◌≡◌, ℕ, zero, suc, ◌+◌, ◌-◌, ◌*◌, ◌/◌, ◌%◌, ◌^◌, ◌<◌, ◌≤◌, Bool, true, false, ltb, leb, List, length, get_or, refl, ap, ◌∙◌, arith, ltb-true, lt-ltb}
 use Rattle.lists.specs.Lists.{pick}
 use Rattle.bool_decoder.specs.BoolCoder.{Coder, Got, bit_at, shifted, renewed, read_bool, upper, lower, split_of, loaded, past, Reads, done, ask, ran}
 

@@ -1,6 +1,5 @@
 -- The RFC's loop of shifts, all at once: of the value, and of the bits read ahead. Assumes nothing.
-use Rattle.std.proofs.Common.{◌≡◌, ℕ, zero, suc, ◌+◌, ◌-◌, ◌*◌, ◌/◌, ◌%◌, ◌^◌, ◌<◌, ◌≤◌, List, sym, refl, ap, ◌∙◌, mul-le-mul_right, mul_assoc, mul_comm, add-mul, one-mul, mul-one, le-mul_of_pos_right, arith, pow_pos, pow-add, le-ltb, lt-ltb}
-use native.Mathlib.Nat.{pow-succ'}
+use Rattle.std.proofs.Common.{◌≡◌, ℕ, zero, suc, ◌+◌, ◌-◌, ◌*◌, ◌/◌, ◌%◌, ◌^◌, ◌<◌, ◌≤◌, List, sym, ap, ◌∙◌, mul-le-mul_right, mul_assoc, add-mul, one-mul, mul-one, le-mul_of_pos_right, arith, pow_pos, pow-add, le-ltb, lt-ltb}
 use Rattle.bool_decoder.specs.BoolCoder.{Coder, bit_at, renewed, shifted}
 use Rattle.bool_decoder.specs.Held.{bits, ahead}
 use Rattle.bool_decoder.specs.Inside.{Shifts}

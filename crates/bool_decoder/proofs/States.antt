@@ -8,7 +8,7 @@ use Rattle.bool_decoder.specs.State.{state_of, coder_of, stands_of, in_range}
 use Rattle.bool_decoder.specs.declared.BoolDecoder.{BoolDecoder}
 use Rattle.bool_decoder.specs.declared.state.BoolState.{BoolState}
 use Rattle.bool_decoder.proofs.Bits.{bits_small, bits-split, bits-byte}
-use Rattle.bool_decoder.proofs.Shift.{coder, ahead-parts}
+use Rattle.bool_decoder.proofs.Shift.{ahead-parts}
 use Rattle.bool_decoder.proofs.Load.{state}
 
 abbrev pub saved : ℕ → ℕ → ℕ → ℕ → BoolState

@@ -71,10 +71,10 @@ module _ (src : List ℕ) (d : BoolDecoder) (c : Coder) (holds : Holds src d c) 
 
 -- the number of shifts stays what it is when the range is named otherwise
 by-same : {x y z h a m : ℕ} {q : BoolDecoder} (n : Renews x y h a q) (e : y ≡ z) → n.by ≤ m → (subst (λ (i : ℕ). Renews x i h a q) e n).by ≤ m
-by-same n refl b = b
+by-same n _ b = b
 
 by-same' : {x y z h a m : ℕ} {q : BoolDecoder} (n : Renews x y h a q) (e : x ≡ z) → n.by ≤ m → (subst (λ (i : ℕ). Renews i y h a q) e n).by ≤ m
-by-same' n refl b = b
+by-same' n _ b = b
 
 -- a range of 64 or more is shifted once at most
 once : (y b : ℕ) → 64 ≤ y → y * 2 ^ b < 256 → b ≤ 1

@@ -1,6 +1,6 @@
 -- The RFC's listing and BoolCoder read the same, and are past the end together, in every partition that an encoder can have written:
 -- one whose first byte is not 255. So no bit is ever lost in one, and 16 bits of value are enough. Assumes nothing.
-use Rattle.std.proofs.Common.{◌≡◌, ℕ, zero, suc, ◌+◌, ◌-◌, ◌*◌, ◌/◌, ◌%◌, ◌^◌, ◌<◌, ◌≤◌, Bool, true, false, eqb, ltb, leb, List, length, get_or, sym, refl, ap, ◌∙◌, subst, mul_comm, mul-le-mul_left, arith, ltb-true, le-ltb, lt-ltb, eqb-true, le-leb, leb-false, leb-true}
+use Rattle.std.proofs.Common.{◌≡◌, ℕ, zero, suc, ◌+◌, ◌-◌, ◌*◌, ◌/◌, ◌%◌, ◌^◌, ◌<◌, ◌≤◌, Bool, true, false, eqb, ltb, leb, List, get_or, sym, refl, ap, ◌∙◌, mul_comm, mul-le-mul_left, arith, ltb-true, eqb-true, le-leb, leb-false, leb-true}
 use native.Mathlib.Nat.{div-div-eq-div-mul}
 use lib.Bits.{bit_or, or_shifted}
 use borrow.Author.Tests.{lt-leb, eqb-false}

@@ -6,7 +6,7 @@
 --     ran        its value, and the decoder after it
 -- The RFC keeps two bytes of the partition and loads a byte after each eighth shift; the second byte changes no bool before it is
 -- shifted up. Here only the eight bits are kept that are compared with the split, and a shift brings in the next bit.
-use Rattle.std.specs.Prelude.{ℕ, zero, suc, ◌+◌, ◌-◌, ◌*◌, ◌/◌, ◌%◌, ◌^◌, Bool, true, false, List, [], length, nat_le, nat_lt, slice_index}
+use Rattle.std.specs.Prelude.{ℕ, zero, suc, ◌+◌, ◌-◌, ◌*◌, ◌/◌, ◌%◌, ◌^◌, Bool, true, false, List, length, nat_le, nat_lt, slice_index}
 use Rattle.lists.specs.Lists.{pick}
 
 -- value   the eight bits that are compared with the split

@@ -29,13 +29,13 @@ module _ (dc ac : ℤ) (k : ℕ) where
   by-ac : (i : ℕ) → pick (eqb (1 + i) 0) dc ac ≡ ac
   by-ac i = rw (ne_eqb (1 + i) 0 (λ e. omega arith))
 
-  pub later-turn : (i : ℕ) (l : List ℤ) (r : ℤ) → mag r < 32768 → mag (get_or l (k * 16 + (1 + i)) (pos 0)) < 32768
-      → r ≡ dequant (R16 (get_or l (k * 16 + (1 + i)) (pos 0))) ac → set l (k * 16 + (1 + i)) (R16 r) ≡ later i l
+  pub later-turn : (i : ℕ) (l : List ℤ) (r : ℤ) → mag r < 32768
+      → R16 (get_or l (k * 16 + (1 + i)) (pos 0)) ≡ get_or l (k * 16 + (1 + i)) (pos 0) → r ≡ dequant (R16 (get_or l (k * 16 + (1 + i)) (pos 0))) ac → set l (k * 16 + (1 + i)) (R16 r) ≡ later i l
   later-turn i l r h g e =
       let x = get_or l (k * 16 + (1 + i)) (pos 0) in
       ap (λ (v : ℤ). set l (k * 16 + (1 + i)) v) (product-read r x ac h g e ∙ ap (λ (f : ℤ). dequant x f) (sym (by-ac i)))
 
-  pub block-done : (l xs : List ℤ) (r : ℤ) → mag r < 32768 → mag (get_or l (k * 16) (pos 0)) < 32768 → r ≡ dequant (R16 (get_or l (k * 16) (pos 0))) dc
+  pub block-done : (l xs : List ℤ) (r : ℤ) → mag r < 32768 → R16 (get_or l (k * 16) (pos 0)) ≡ get_or l (k * 16) (pos 0) → r ≡ dequant (R16 (get_or l (k * 16) (pos 0))) dc
       → xs ≡ turns 15 later (set l (k * 16) (R16 r)) → xs ≡ block_scaled dc ac k l
   unfolding block_scaled turns
   block-done l xs r h g e q =

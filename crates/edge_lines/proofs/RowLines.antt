@@ -1,7 +1,7 @@
 -- Rows as lines: eight rows of a plane are eight lines of a window. Once over the lanes: sixteen for Y, 0 to 7 for U, 8 to 15 for V. Assumes nothing.
 --     rows-agree, rows-u, rows-v     the window as it was taken
 --     back_is                        put back, it is the plane that the window agrees with
-use Prim.Native.Nat.{ℕ, ◌+◌, ◌-◌, ◌*◌, ◌<◌, ◌≤◌}
+use Prim.Native.Nat.{ℕ, ◌+◌, ◌*◌, ◌<◌, ◌≤◌}
 use mathlib.Core.Path.{◌≡◌, refl, sym, ap, subst, ◌∙◌}
 use mathlib.Core.Logic.{⊎_elim}
 use mathlib.Core.List.{List}

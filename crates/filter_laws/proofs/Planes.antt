@@ -11,7 +11,7 @@ use mathlib.Core.Path.{◌≡◌, refl, sym, ap, ◌∙◌}
 use mathlib.Core.Bool.{Bool, true, false}
 use mathlib.Core.List.{List}
 use lib.Dec.{ltb, eqb}
-use lib.ListN.{length, get_or}
+use lib.ListN.{get_or}
 use borrow.Author.Tests.{ltb-true}
 use Rattle.lists.specs.Lists.{turns, pick}
 use Rattle.lists.proofs.Nested.{turns-ext}

@@ -29,6 +29,7 @@ fn part_of(level: u8, sharp: u8) -> u8
     level / 2
 }
 
+#[tactic(auto, unfolding(rfc6386::specs::LoopFilter::interior_of))]
 fn interior_limit(level: u8, sharp: u8) -> u8
     requires { sharp ≤ 7 }
     ensures { result ≡ interior_of level sharp }
@@ -40,6 +41,7 @@ fn interior_limit(level: u8, sharp: u8) -> u8
 }
 
 // High edge variance in a key frame.
+#[tactic(auto, unfolding(rfc6386::specs::LoopFilter::hev_of))]
 fn hev_limit(level: u8) -> u8
     ensures { result ≡ hev_of level }
 {
@@ -65,6 +67,7 @@ fn limits(base: u8, level: u8, sharp: u8) -> Limits
     }
 }
 
+#[tactic(auto, unfolding(rfc6386::specs::LoopFilter::rule_of))]
 fn rule(simple: bool, level: u8, sharp: u8) -> Rule
     requires { (level ≤ 63) × (sharp ≤ 7) }
     ensures { result ≡ rule_of simple level sharp }

@@ -180,6 +180,7 @@ fn levels_ok(levels: &[u8]) -> bool
 }
 
 // The refusal of a picture by its size, the lengths of its slices, whether its levels are at most 63, its sharpness and its kind; 0 for none.
+#[tactic(auto, unfolding(crate::specs::Answers::refusal_of))]
 fn refusal(
     cols: usize,
     rows: usize,

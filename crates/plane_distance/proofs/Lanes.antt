@@ -5,11 +5,11 @@
 -- Assumes nothing.
 use Prim.Native.Nat.{ℕ, ◌+◌, ◌*◌, ◌<◌, ◌≤◌, max}
 use mathlib.Core.List.{List}
-use mathlib.Core.Path.{◌≡◌, refl, sym, ap, ◌∙◌}
+use mathlib.Core.Path.{◌≡◌, refl, ap, ◌∙◌}
 use native.Mathlib.Nat.{mul-one}
 use native.Mathlib.Omega.{arith}
 use lib.Dec.{eqb, lit<}
-use lib.ListN.{get_or, length}
+use lib.ListN.{get_or}
 use Rattle.lists.specs.Lists.{table, pick, total}
 use Rattle.lists.proofs.Table.{table-length, table_at, table-ext}
 use Rattle.lists.proofs.Each.{each_all}

@@ -1,8 +1,8 @@
 -- Two parts of a plane are the whole; no sum of a plane passes 64 bits; and what the test of the lengths says. Assumes nothing.
 use Prim.Native.Nat.{ℕ, ◌+◌, ◌*◌, ◌%◌, ◌≤◌, max}
-use mathlib.Core.Bool.{Bool, true, false}
+use mathlib.Core.Bool.{true, false}
 use mathlib.Core.List.{List}
-use mathlib.Core.Path.{◌≡◌, refl, sym, ap, ◌∙◌}
+use mathlib.Core.Path.{◌≡◌, sym, ap, ◌∙◌}
 use native.Mathlib.Nat.{zero-add, mul-one}
 use native.Mathlib.Omega.{arith}
 use borrow.Author.Tests.{eq-eqb, ne_eqb, eqb-true, leb-true}
@@ -11,7 +11,6 @@ use Rattle.lists.specs.Lists.{both, total}
 use Rattle.lists.proofs.Tests.{left-holds, right-holds}
 use Rattle.plane_distance.specs.Sums.{largest}
 use Rattle.plane_distance.specs.Apart.{apart_at, square_at, same_at, distance_from, together, comparable}
-use Rattle.plane_distance.specs.declared.Distance.{Distance}
 use Rattle.lists.proofs.Total.{total-≤, total_ext, total-add}
 use Rattle.plane_distance.proofs.Totals.{largest-ext, largest-add}
 use Rattle.plane_distance.proofs.Pixels.{Bytes, same-≤, square-≤}

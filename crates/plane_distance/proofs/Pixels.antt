@@ -4,7 +4,7 @@
 --     apart-equal, square-equal, same-equal     equal pixels: no difference, no square, and they count
 --     apart-≤, square-≤, same-≤                 how large each may be
 -- Assumes nothing.
-use Prim.Native.Nat.{ℕ, zero, suc, ◌+◌, ◌*◌, ◌-◌, ◌<◌, ◌≤◌}
+use Prim.Native.Nat.{ℕ, zero, suc, ◌*◌, ◌≤◌}
 use mathlib.Core.Bool.{Bool, true, false}
 use mathlib.Core.List.{List}
 use mathlib.Core.Path.{◌≡◌, refl, sym, ap}

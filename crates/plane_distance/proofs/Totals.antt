@@ -6,10 +6,10 @@
 --     total-all                     every number the same
 --     total-lanes, largest-lanes    lane by lane: w lanes of h, number j of lane k being number w j + k of all
 -- Assumes nothing.
-use mathlib.Core.Path.{◌≡◌, refl, sym, ap, ◌∙◌}
+use mathlib.Core.Path.{◌≡◌, refl, ◌∙◌}
 use mathlib.Core.Logic.{⊎_elim}
 use Prim.Native.Nat.{ℕ, zero, suc, ◌+◌, ◌*◌, ◌/◌, ◌%◌, ◌<◌, ◌≤◌, max}
-use native.Mathlib.Nat.{add-zero, add-suc, suc-mul, mul-suc, zero-mul, mul-zero, mul_comm, le_antisymm, eq-or-lt_of_le, le_of_suc-le-suc, mul-le-mul_left, div-add-mod, mod-lt, div-lt_iff_lt-mul}
+use native.Mathlib.Nat.{add-zero, add-suc, suc-mul, mul-suc, mul-zero, mul_comm, le_antisymm, eq-or-lt_of_le, le_of_suc-le-suc, mul-le-mul_left, div-add-mod, mod-lt, div-lt_iff_lt-mul}
 use native.Mathlib.Numerals.{add-one}
 use native.Mathlib.Omega.{arith}
 use Rattle.lists.specs.Lists.{total}

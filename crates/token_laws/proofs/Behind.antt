@@ -1,14 +1,14 @@
 -- A macroblock is read from no byte past those that its state's place counts: other bytes behind them give the same answer. Assumes nothing.
-use Prim.Native.Nat.{ℕ, ◌+◌, ◌-◌, ◌*◌, ◌/◌, ◌%◌, ◌^◌, ◌≤◌, ◌<◌}
+use Prim.Native.Nat.{ℕ, ◌+◌, ◌*◌, ◌/◌, ◌%◌, ◌^◌, ◌≤◌}
 use mathlib.Core.Bool.{Bool, true, false}
 use mathlib.Core.List.{List}
 use mathlib.Core.Path.{◌≡◌, refl, sym, ap, ◌∙◌}
 use native.Mathlib.Omega.{arith}
-use lib.Dec.{ltb, eqb}
-use lib.ListN.{length, get_or}
+use lib.Dec.{eqb}
+use lib.ListN.{length}
 use borrow.Author.Tests.{le-ltb}
 use Rattle.lists.specs.Lists.{pick}
-use Rattle.bool_decoder.specs.BoolCoder.{Coder, Got, ran, past, loaded}
+use Rattle.bool_decoder.specs.BoolCoder.{Got, past, loaded}
 use Rattle.bool_decoder.specs.State.{state_of, coder_of, stands_of}
 use Rattle.bool_decoder.proofs.Later.{Agree, ran-same}
 use Rattle.bool_decoder.specs.declared.state.BoolState.{BoolState}

@@ -1,5 +1,5 @@
 -- A bounded number of bools, whatever the bytes are: at most 19 a token, 16 tokens a block, 25 blocks a macroblock. Assumes nothing.
-use Prim.Native.Nat.{ℕ, zero, suc, ◌+◌, ◌-◌, ◌*◌, ◌≤◌, ◌<◌}
+use Prim.Native.Nat.{ℕ, zero, suc, ◌+◌, ◌-◌, ◌*◌, ◌≤◌}
 use mathlib.Core.Bool.{Bool, true, false}
 use mathlib.Core.List.{List, [], ◌∷◌}
 use mathlib.Core.Path.{◌≡◌, refl}
@@ -8,7 +8,7 @@ use lib.Dec.{eqb, leb}
 use lib.ListN.{length, get_or}
 use borrow.Author.Tests.{leb-true, leb-false}
 use Rattle.lists.specs.Lists.{pick}
-use Rattle.bool_decoder.specs.BoolCoder.{Coder, Reads, done, ask, ran, ◌then◌, bit_of}
+use Rattle.bool_decoder.specs.BoolCoder.{Coder, Reads, done, ask, ◌then◌, bit_of}
 use Rattle.bool_decoder.proofs.Later.{AtMost, asked, asked-most}
 use Rattle.tokens.specs.Tokens.{Tree, value, node, extras, treed, later_tree, Drawn, Thread, positions, unless_ended, row_of, class_of, zeroed, stored, one_block, blocks, all_blocks, base_of, first_of, count_of, marked}
 

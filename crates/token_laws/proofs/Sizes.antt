@@ -2,14 +2,14 @@
 use Prim.Native.Nat.{ℕ, zero, suc, ◌+◌, ◌-◌, ◌*◌, ◌^◌, ◌≤◌, ◌<◌}
 use mathlib.Core.Bool.{Bool, true, false}
 use mathlib.Core.List.{List, [], ◌∷◌}
-use mathlib.Core.Path.{◌≡◌, refl, sym, ap, subst, ◌∙◌}
+use mathlib.Core.Path.{◌≡◌, refl, sym, ap, ◌∙◌}
 use native.Mathlib.Omega.{arith}
-use native.Mathlib.Nat.{pow-succ', mul_assoc, mul-one, one-mul, mul-le-mul_right, add-mul}
+use native.Mathlib.Nat.{pow-succ', mul_assoc, mul-one, one-mul, mul-le-mul_right}
 use lib.Dec.{eqb}
 use lib.IntN.{ℤ, pos}
 use lib.ListN.{length, get_or, set, replicate}
 use Rattle.lists.specs.Lists.{pick}
-use Rattle.bool_decoder.specs.BoolCoder.{Coder, Reads, done, ask, ran, ◌then◌, bit_of, past}
+use Rattle.bool_decoder.specs.BoolCoder.{Reads, done, ask, ◌then◌, bit_of, past}
 use Rattle.bool_decoder.proofs.Later.{Always, always-ran}
 use Rattle.bool_decoder.specs.State.{stands_of, state_of, coder_of}
 use Rattle.bool_decoder.specs.declared.state.BoolState.{BoolState}

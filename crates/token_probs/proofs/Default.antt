@@ -2,7 +2,6 @@
 use mathlib.Core.Path.{◌≡◌, refl, sym, subst}
 use mathlib.Core.Bool.{Bool, true, false}
 use Prim.Native.Nat.{ℕ, ◌≤◌, ◌<◌}
-use native.Mathlib.Omega.{arith}
 use lib.Dec.{ltb, ltb→lt, T}
 use borrow.Author.Tests.{ltb-true}
 use native.Mathlib.Nat.{le_of_suc-le-suc}

@@ -1,17 +1,17 @@
 -- The blocks of a macroblock, one after the other, with their contexts. Assumes nothing.
-use Prim.Native.Nat.{ℕ, zero, suc, ◌+◌, ◌-◌, ◌*◌, ◌≤◌, ◌<◌}
+use Prim.Native.Nat.{ℕ, suc, ◌+◌, ◌-◌, ◌*◌, ◌≤◌, ◌<◌}
 use mathlib.Core.Path.{◌≡◌, refl, sym, ap, subst, ◌∙◌}
 use mathlib.Core.Bool.{Bool, true, false}
 use mathlib.Core.List.{List}
 use native.Mathlib.Omega.{arith}
 use lib.IntN.{ℤ}
 use lib.ListN.{get_or, set}
-use Rattle.bool_decoder.specs.BoolCoder.{Coder, Got, Reads, done, ran, ◌then◌, read_bool, bit_of}
+use Rattle.bool_decoder.specs.BoolCoder.{Coder, Got, Reads, done, ran, read_bool, bit_of}
 use Rattle.bool_decoder.specs.Held.{Holds, Ready, IsOne, After}
 use Rattle.bool_decoder.specs.declared.BoolDecoder.{BoolDecoder}
 use Rattle.bool_decoder.proofs.Runs.{ran_then}
 use Rattle.tokens.specs.Tokens.{Drawn, Thread, positions, row_of, band_of, above_slot, left_slot, base_of, first_of, count_of, marked, one_block, blocks, all_blocks}
-use Rattle.tokens.specs.Walks.{Band, Draws, Threads, Threaded, drawn, thread_of}
+use Rattle.tokens.specs.Walks.{Band, Draws, Threads, drawn, thread_of}
 use Rattle.tokens.specs.declared.block.Block.{Block}
 use Rattle.tokens.proofs.Positions.{goes_on, ends, gotten}
 

@@ -1,22 +1,21 @@
 -- A block, position by position: what is left to read makes what was to be read. Assumes nothing.
-use Prim.Native.Nat.{ℕ, zero, suc, ◌+◌, ◌-◌, ◌*◌, ◌≤◌, ◌<◌}
+use Prim.Native.Nat.{ℕ, zero, suc, ◌+◌, ◌-◌, ◌≤◌, ◌<◌}
 use mathlib.Core.Path.{◌≡◌, refl, sym, ap, subst, ◌∙◌}
 use mathlib.Core.Bool.{Bool, true, false, ◌||◌}
 use mathlib.Core.List.{List, []}
 use native.Mathlib.Omega.{arith}
 use lib.Dec.{eqb}
 use lib.IntN.{ℤ}
-use lib.ListN.{get_or, set}
+use lib.ListN.{get_or}
 use borrow.Author.Tests.{ne_eqb}
 use Rattle.lists.specs.Lists.{pick}
 use Rattle.bool_decoder.specs.BoolCoder.{Coder, Got, Reads, done, ask, ran, ◌then◌, read_bool}
 use Rattle.bool_decoder.specs.Held.{Holds, Ready, IsOne, After, Went}
 use Rattle.bool_decoder.specs.declared.BoolDecoder.{BoolDecoder}
 use Rattle.bool_decoder.proofs.Runs.{ran_then}
-use Rattle.tokens.specs.Tokens.{Drawn, treed, extras, value, nonzero_tree, later_tree, positions, unless_ended, row_of, band_of, class_of, zeroed, stored, zigzag_of, signed_of}
-use Rattle.tokens.specs.Walks.{Band, Put, Puts, Drew, Draws, drawn}
+use Rattle.tokens.specs.Tokens.{Drawn, treed, extras, value, nonzero_tree, later_tree, positions, unless_ended, row_of, class_of, zeroed, stored}
+use Rattle.tokens.specs.Walks.{Band, Put, Puts, Drew, drawn}
 use Rattle.tokens.specs.declared.tree.Token.{Token}
-use Rattle.tokens.specs.declared.block.Block.{Block}
 
 module _ (src probs : List ℕ) (base at : ℕ) (zeros : Bool) where
   -- what follows a token of that size

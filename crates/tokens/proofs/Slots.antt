@@ -6,7 +6,7 @@ use mathlib.Core.List.{List}
 use native.Mathlib.Omega.{arith}
 use lib.IntN.{ℤ}
 use lib.ListN.{set}
-use Rattle.bool_decoder.specs.BoolCoder.{Coder, ran, read_bool}
+use Rattle.bool_decoder.specs.BoolCoder.{Coder, ran}
 use Rattle.bool_decoder.specs.Held.{Takes}
 use Rattle.bool_decoder.specs.declared.BoolDecoder.{BoolDecoder}
 use Rattle.bool_decoder.specs.declared.Bit.{Bit}

@@ -1,15 +1,14 @@
 -- The answer from the walk: past the end, or not. Assumes nothing.
-use Prim.Native.Nat.{ℕ, ◌+◌, ◌/◌, ◌≤◌, ◌<◌}
+use Prim.Native.Nat.{ℕ, ◌≤◌, ◌<◌}
 use mathlib.Core.Path.{◌≡◌, refl, sym, ap, subst, ◌∙◌}
 use mathlib.Core.Bool.{Bool, true, false}
 use mathlib.Core.List.{List}
 use native.Mathlib.Omega.{arith}
-use lib.Dec.{ltb}
 use lib.IntN.{ℤ}
 use lib.ListN.{length, get_or}
-use borrow.Author.Tests.{ltb-true, ltb-false}
+use borrow.Author.Tests.{ltb-false}
 use Rattle.lists.specs.Lists.{pick}
-use Rattle.bool_decoder.specs.BoolCoder.{Coder, Got, past, loaded}
+use Rattle.bool_decoder.specs.BoolCoder.{Got, past, loaded}
 use Rattle.bool_decoder.specs.Held.{Holds}
 use Rattle.bool_decoder.specs.State.{state_of, coder_of, stands_of, Resumes, Saves}
 use Rattle.bool_decoder.specs.declared.BoolDecoder.{BoolDecoder}

@@ -1,5 +1,5 @@
 -- A walk of a tree, node by node. Assumes nothing.
-use Prim.Native.Nat.{ℕ, zero, suc, ◌+◌, ◌-◌, ◌*◌, ◌^◌, ◌≤◌, ◌<◌}
+use Prim.Native.Nat.{ℕ, ◌+◌, ◌*◌, ◌^◌, ◌≤◌, ◌<◌}
 use mathlib.Core.Path.{◌≡◌, refl, sym, ap, subst, ◌∙◌}
 use mathlib.Core.Bool.{Bool, true, false}
 use mathlib.Core.List.{List, [], ◌∷◌}
@@ -10,7 +10,7 @@ use lib.Pow.{pow_mono}
 use lib.ListN.{length, get_or, drop}
 use lib.Seq.{drop-cons, drop-length}
 use Rattle.lists.specs.Lists.{pick}
-use Rattle.bool_decoder.specs.BoolCoder.{Coder, Got, Reads, done, ask, ran, ◌then◌, read_bool, bit_of}
+use Rattle.bool_decoder.specs.BoolCoder.{Coder, Got, Reads, done, ran, ◌then◌, read_bool, bit_of}
 use Rattle.bool_decoder.specs.Held.{Holds, Ready, IsOne, After, Takes, Went}
 use Rattle.bool_decoder.specs.declared.BoolDecoder.{BoolDecoder}
 use Rattle.bool_decoder.specs.declared.Bit.{Bit}

@@ -1,5 +1,5 @@
 -- The contracts of the walk: each function reads as its definition does, from any decoder that holds a Coder.
-use Rattle.std.specs.Prelude.{ℕ, ◌+◌, ◌*◌, ◌^◌, ◌≤◌, ◌<◌, ◌≡◌, Bool, true, false, List, ℤ, set}
+use Rattle.std.specs.Prelude.{ℕ, ◌+◌, ◌*◌, ◌≤◌, ◌<◌, ◌≡◌, Bool, List, ℤ, set}
 use Rattle.bool_decoder.specs.BoolCoder.{Coder, Reads, ran, read_bool}
 use Rattle.bool_decoder.specs.Held.{Holds}
 use Rattle.bool_decoder.specs.declared.BoolDecoder.{BoolDecoder}

@@ -1,14 +1,13 @@
 -- 127 laid over the absent parts of a row, one after the other, is the row with 127 in the place of each absent part. Assumes nothing.
-use Prim.Native.Nat.{ℕ, zero, suc, ◌+◌, ◌-◌, ◌<◌, ◌≤◌}
+use Prim.Native.Nat.{ℕ, ◌+◌, ◌-◌, ◌<◌, ◌≤◌}
 use mathlib.Core.Path.{◌≡◌, refl, sym, ap, ◌∙◌}
 use mathlib.Core.Bool.{Bool, true, false}
 use mathlib.Core.List.{List}
 use native.Mathlib.Omega.{arith}
-use borrow.Author.Tests.{lt-ltb, le-ltb}
 use lib.Dec.{ltb, ltb→lt, nltb→le}
 use lib.ListN.{length, get_or}
 use lib.Seq.{ext_get_or}
-use Rattle.lists.specs.Lists.{table, turns, store, pick}
+use Rattle.lists.specs.Lists.{pick}
 use Rattle.lists.proofs.Table.{table-length, table_at}
 use Rattle.lists.proofs.Tests.{true-T}
 use Rattle.lists.proofs.Updates.{updates-length, updates-inside, updates-outside}

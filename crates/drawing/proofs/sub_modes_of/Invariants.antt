@@ -1,0 +1,12 @@
+-- `drawing::sub_modes_of` meets its contract. Assumes nothing.
+use Prim.Native.Nat.{◌≤◌, ◌-◌}
+use mathlib.Core.Path.{◌≡◌}
+use mathlib.Core.List.{◌++◌}
+use lib.ListN.{get_or, length, drop}
+use Rattle.lists.specs.Lists.{table}
+use Rattle.macroblock.specs.declared.modes.IntraBmode.TheVariants as b
+use Rattle.macroblock.specs.Says.{b_mode}
+use Rattle.drawing.proofs.sub_modes_of.Given as goal
+
+abbrev pub invariant-loop-k : goal.invariant-loop-k
+invariant-loop-k l = (l.k ≤ 16) × ((l.modes ≡ table l.k (λ i. b_mode (get_or l.bytes i 0)) ++ drop l.k l.initial.modes) × (length l.modes ≡ 16))

@@ -1,0 +1,7 @@
+-- `gathering::record::beside` meets its contract: the record of what its calls give. Assumes nothing.
+use Rattle.rfc6386.specs.Picture.{neighbors_of}
+use Rattle.gathering.proofs.record.beside.Goals as goal
+
+pub returns : goal.returns
+unfolding neighbors_of
+returns c = rw (c.chroma_edges-ev.ensures, c.chroma_edges-eu.ensures, c.luma_edges-ey.ensures)

@@ -1,0 +1,8 @@
+-- `intra_edges::dc::dc_block` meets its contract: the block is flat. Assumes nothing.
+use mathlib.Core.Path.{sym, ◌∙◌}
+use Rattle.rfc6386.proofs.Edges.{dc-flat}
+use Rattle.intra_edges.proofs.dc.dc_block.Goals as goal
+
+pub returns : goal.returns
+returns c =
+    (rw (c.requires.2, c.dc_pixel.ensures) at c.fill.ensures) ∙ sym (dc-flat _ _ _ _ _)

@@ -1,0 +1,24 @@
+use Rattle.loop_filter.proofs.Both.{mb-is, mb-none, pick_yes, pick_no, pick_same}
+use Rattle.loop_filter.proofs.filter_macroblock.Goals as goal
+
+pub returns-then-level-eq0 : goal.returns-then-level-eq0
+returns-then-level-eq0 c =
+    let e = c.if-level-eq0.true in
+    let a = c.args in (
+      mb-none a.simple a.level a.sharp a.inner 16 a.cols a.r a.c a.y.now e,
+      pick_same a.simple _ _ (mb-none a.simple a.level a.sharp a.inner 8 a.cols a.r a.c a.u.now e),
+      pick_same a.simple _ _ (mb-none a.simple a.level a.sharp a.inner 8 a.cols a.r a.c a.v.now e),
+    )
+
+pub returns-then-luma_only : goal.returns-then-luma_only
+returns-then-luma_only c =
+    let p = c.requires in
+    (mb-is _ _ _ _ _ _ _ _ _ _ _ c.if-level-eq0.false p.0 p.1 c.rule_of-rule.ensures c.luma_edges.ensures, pick_yes _ _ _ c.if-luma_only.true, pick_yes _ _ _ c.if-luma_only.true)
+
+pub returns : goal.returns
+returns c =
+    let p = c.requires in (
+      mb-is _ _ _ _ _ _ _ _ _ _ _ c.if-level-eq0.false p.0 p.1 c.rule_of-rule.ensures c.luma_edges.ensures,
+      pick_no _ _ _ _ c.if-luma_only.false (mb-is _ _ _ _ _ _ _ _ _ _ _ c.if-level-eq0.false p.0 p.1 c.rule_of-rule.ensures c.chroma_edges.ensures.0),
+      pick_no _ _ _ _ c.if-luma_only.false (mb-is _ _ _ _ _ _ _ _ _ _ _ c.if-level-eq0.false p.0 p.1 c.rule_of-rule.ensures c.chroma_edges.ensures.1),
+    )

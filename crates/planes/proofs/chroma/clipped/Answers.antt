@@ -1,0 +1,27 @@
+-- `planes::chroma::clipped` meets its contract. Assumes nothing.
+use Prim.Native.Nat.{◌-◌, ◌≤◌}
+use mathlib.Core.Path.{◌≡◌, refl}
+use native.Mathlib.Omega.{arith}
+use Rattle.lists.specs.Lists.{total}
+use Rattle.lists.proofs.Total.{total-turn}
+use Rattle.planes.specs.Steps.{row_clipped}
+use Rattle.planes.proofs.Counts.{row-≤}
+use Rattle.planes.proofs.chroma.clipped.Goals as goal
+
+pub loop-r-init : goal.loop-r-init
+unfolding total
+loop-r-init c = (omega arith, refl, omega arith)
+
+pub overflow_add-n : goal.overflow_add-n
+overflow_add-n c = let h : c.row_clipped-n.result ≤ 8 = rw c.row_clipped-n.ensures (row-≤ _ _ _) in omega (arith, h)
+
+pub loop-r-preserved : goal.loop-r-preserved
+loop-r-preserved c =
+    let h : c.row_clipped-n.result ≤ 8 = rw c.row_clipped-n.ensures (row-≤ _ _ _) in
+    (omega arith, total-turn _ _ _ _ c.loop-r.invariant.1 c.row_clipped-n.ensures, omega (arith, h))
+
+pub returns : goal.returns
+returns c =
+    let l = c.loop-r in
+    let full : l.r ≡ 8 = omega arith in
+    rw full at l.invariant.1

@@ -1,0 +1,17 @@
+-- `sub_blocks::put::put_block` meets its contract: four rows of four stores are the sixteen. Assumes nothing.
+use mathlib.Core.Path.{refl, ◌∙◌}
+use Rattle.lists.specs.Lists.{turns}
+use Rattle.lists.proofs.Turns.{turns-step, turns-done}
+use Rattle.sub_blocks.proofs.FourRows.{put-rows}
+use native.Mathlib.Omega.{arith}
+use Rattle.sub_blocks.proofs.put.put_block.Goals as goal
+
+pub loop-r-init : goal.loop-r-init
+unfolding turns
+loop-r-init c = (omega arith, refl)
+
+pub loop-r-preserved : goal.loop-r-preserved
+loop-r-preserved c = (omega arith, turns-step _ _ _ _ _ c.loop-r.invariant.1 c.put_row.ensures)
+
+pub returns : goal.returns
+returns c = turns-done _ _ _ _ _ c.loop-r.invariant.1 c.loop-r.invariant.0 c.loop-r-test.false ∙ put-rows _ _ _

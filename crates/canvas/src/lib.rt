@@ -85,7 +85,7 @@ pub fn draw_macroblock(
     u: &mut [u8],
     v: &mut [u8],
 ) -> DrawnMb
-    ensures { ((result.reply beside (λ x. x.now) y.exit beside (λ x. x.now) u.exit beside (λ x. x.now) v.exit) beside result.clipped)
+    ensures { ((result.reply beside y.new beside u.new beside v.new) beside result.clipped)
         ≡ told_into cols rows col row luma chroma skip sub_modes right coeffs.now y.old u.old v.old }
 {
     let gathered = gathering::gather(y, u, v, cols, rows, col, row, right);

@@ -190,7 +190,7 @@ pub fn distance(
     reports: &mut [u64],
     totals: &mut [u64],
 ) -> u32
-    ensures { (result beside (λ x. x.now) reports.exit beside (λ x. x.now) totals.exit)
+    ensures { (result beside reports.new beside totals.new)
         ≡ distance_answer sizes.now drawn.now measured.now reports.old totals.old }
 {
     if totals.len() != 3 {

@@ -58,9 +58,9 @@ fn draw_at(
     v: &mut [u8],
 ) -> DrawnMb
     requires { (0 < cols) × (3 * k + 3 ≤ length modes.now) × (16 * k + 16 ≤ length sub_modes.now) × (400 * k + 400 ≤ length coeffs.now) }
-    ensures* { λ r. ⌜ ((r.reply beside (λ x. x.now) y.exit beside (λ x. x.now) u.exit beside (λ x. x.now) v.exit) beside r.clipped)
+    ensures { ((result.reply beside y.new beside u.new beside v.new) beside result.clipped)
         ≡ told_at cols rows modes.now sub_modes.now coeffs.now (λ r y. right) k
-        y.entry.now u.old v.old ⌝ }
+        y.old u.old v.old }
 {
     let luma = modes[3 * k];
     let chroma = modes[3 * k + 1];

@@ -1,8 +1,7 @@
 -- `blocks::take_padded` meets its contract: the list is drawn from the front. Assumes nothing.
-use Prim.Native.Nat.{◌+◌, ◌-◌}
+use Prim.Native.Nat.{◌+◌}
 use mathlib.Core.Path.{◌≡◌, refl, ◌∙◌}
 use lib.ListN.{length, get_or, length-set}
-use Rattle.lists.specs.Lists.{table}
 use Rattle.lists.proofs.Table.{table_none, table-turn, table_done}
 use lib.IntN.{pos}
 use Rattle.blocks.specs.Taken.{taken}

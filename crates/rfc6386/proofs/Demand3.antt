@@ -3,7 +3,7 @@
 --     demand3-pixel    as the machine makes it, for every block of coefficients from -8191 to 8191
 --     dropped-above, dropped-below    the prediction alone does not meet it where the exact residue is 13/8 of a level or more, with room up or down
 -- Assumes nothing.
-use Prim.Native.Nat.{ℕ, ◌+◌, ◌-◌, ◌*◌, ◌^◌, ◌<◌, ◌≤◌}
+use Prim.Native.Nat.{ℕ, ◌+◌, ◌-◌, ◌*◌, ◌^◌, ◌≤◌}
 use mathlib.Core.Path.{◌≡◌}
 use native.Mathlib.Nat.{min-le_left}
 use native.Mathlib.Omega.{arith}

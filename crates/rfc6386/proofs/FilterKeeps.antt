@@ -4,7 +4,7 @@ use mathlib.Core.Path.{◌≡◌, refl}
 use mathlib.Core.Bool.{Bool, true, false}
 use Rattle.macroblock.specs.declared.filter.Across.{Across}
 use Rattle.macroblock.specs.declared.filter.Limits.{Limits}
-use Rattle.macroblock.specs.declared.filter.Kind.TheVariants.{Simple, Outer, Inner}
+use Rattle.macroblock.specs.declared.filter.Kind.TheVariants.{Simple, Inner}
 use Rattle.lists.specs.Lists.{pick, both}
 use Rattle.rfc6386.specs.LoopFilter.{near, smooth, steep, common, subblock, filtered}
 

@@ -1,9 +1,9 @@
 -- No pixel beyond a filter's reach changes: three pixels on each side of a macroblock's edge, two of an inner edge, one in the simple filter.
 -- And the plane keeps its length. Assumes nothing.
 use Prim.Native.Nat.{ℕ, zero, suc, ◌+◌, ◌-◌, ◌*◌, ◌<◌, ◌≤◌}
-use native.Mathlib.Nat.{le_refl, lt_of_lt_of_le}
+use native.Mathlib.Nat.{le_refl}
 use native.Mathlib.Omega.{arith}
-use mathlib.Core.Path.{◌≡◌, refl, sym, ap, ◌∙◌}
+use mathlib.Core.Path.{◌≡◌, refl, ap, ◌∙◌}
 use mathlib.Core.Logic.{◌≢◌}
 use mathlib.Core.List.{List}
 use lib.ListN.{length, get_or, set, length-set}
@@ -14,7 +14,7 @@ use Rattle.macroblock.specs.declared.filter.Kind.{Kind}
 use Rattle.macroblock.specs.declared.filter.Kind.TheVariants.{Simple, Outer, Inner}
 use Rattle.rfc6386.proofs.FilterKeeps.{simple-p2, simple-p1, simple-q1, simple-q2, inner-p2, inner-q2}
 use Rattle.lists.specs.Lists.{turns}
-use Rattle.rfc6386.specs.LoopFilter.{filtered, taken, laid, crossed, edge_turn, edge, reach}
+use Rattle.rfc6386.specs.LoopFilter.{filtered, taken, laid, crossed, edge, reach}
 
 pub length-laid : (step i : ℕ) (x : Across) (b : List ℕ) → length (laid step i x b) ≡ length b
 unfolding laid

@@ -1,7 +1,7 @@
 -- RFC 6386, 12.2: prediction of a block of n by n pixels from the n above it and the n to its left: 16x16 luma and 8x8 chroma.
 -- An edge is its pixels with a mark whether it is there. The pixels of an absent edge are read nowhere: 127 stands for each of an
 -- absent row above, 129 for each of an absent left column, except in DC.
-use Rattle.std.specs.Prelude.{ℕ, ◌+◌, ◌*◌, ◌/◌, Bool, true, false, List, [], ◌∷◌, ℤ, pos, ◌+ℤ◌, ◌-ℤ◌, get_or, replicate}
+use Rattle.std.specs.Prelude.{ℕ, ◌+◌, ◌*◌, ◌/◌, Bool, true, false, List, [], ◌∷◌, pos, ◌+ℤ◌, ◌-ℤ◌, get_or, replicate}
 use Rattle.whole.specs.Whole.{clamp}
 use Rattle.lists.specs.Lists.{rows, pick}
 use Rattle.macroblock.specs.declared.modes.IntraYMode.{IntraYMode}

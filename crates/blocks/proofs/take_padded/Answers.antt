@@ -1,17 +1,13 @@
 -- `blocks::take_padded` meets its contract: the list is drawn from the front. Assumes nothing.
-use Prim.Native.Nat.{◌+◌, ◌-◌}
+use Prim.Native.Nat.{◌+◌}
 use mathlib.Core.Path.{◌≡◌, refl, ◌∙◌}
 use lib.ListN.{length, get_or, length-set}
-use Rattle.lists.specs.Lists.{table}
 use Rattle.lists.proofs.Table.{table_none, table-turn, table_done}
 use lib.IntN.{pos}
 use Rattle.blocks.specs.Taken.{taken}
 use Rattle.whole.proofs.Held.{held16}
 use native.Mathlib.Omega.{arith}
 use Rattle.blocks.proofs.take_padded.Goals as goal
-
--- same_length : tie.Need-same-length invariant-loop decreases-loop
--- same_length c = c.before.loop.invariant.2
 
 pub loop-k-init : goal.loop-k-init
 loop-k-init c = (omega arith, refl, refl, table_none _ _)
@@ -33,6 +29,3 @@ returns c =
     let out = c.args.out.now in
     let full : l.k ≡ length out = omega arith in
     table_done (length out) _ out _ (rw full at l.invariant.3) refl
-
--- inline, one of loop-k-init coefficient-requires offset_bounds-out-k bounds-out-k loop-k-smaller loop-k-preserved returns
--- λ c. same_length c

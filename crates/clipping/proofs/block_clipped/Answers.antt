@@ -1,6 +1,6 @@
 -- `clipping::block_clipped` meets its contract: after i turns the count is that of the first i pixels. Assumes nothing.
 use mathlib.Core.Path.{◌≡◌, refl}
-use Prim.Native.Nat.{◌-◌, ◌≤◌}
+use Prim.Native.Nat.{◌≤◌}
 use native.Mathlib.Omega.{arith}
 use Rattle.clipping.specs.Clipped.{block_clipped}
 use Rattle.lists.specs.Lists.{total}

@@ -1,6 +1,6 @@
 -- `clipping::block_clipped` meets its contract: after i turns the count is that of the first i pixels. Assumes nothing.
 use mathlib.Core.Path.{◌≡◌}
-use Prim.Native.Nat.{◌-◌, ◌≤◌}
+use Prim.Native.Nat.{◌≤◌}
 use Rattle.lists.specs.Lists.{total}
 use Rattle.clipping.proofs.Blocks.{over_of}
 use Rattle.clipping.proofs.block_clipped.Given as goal

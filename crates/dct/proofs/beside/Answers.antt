@@ -1,5 +1,4 @@
 -- `dct::beside` meets its contract: each turn of the loop puts a row of a block in its place. Assumes nothing.
-use Prim.Native.Nat.{◌-◌}
 use mathlib.Core.Path.{refl}
 use native.Mathlib.Omega.{arith}
 use Rattle.lists.specs.Lists.{turns}

@@ -1,5 +1,5 @@
 -- `dct::beside` meets its contract: each turn of the loop puts a row of a block in its place. Assumes nothing.
-use Prim.Native.Nat.{◌≤◌, ◌-◌}
+use Prim.Native.Nat.{◌≤◌}
 use mathlib.Core.Path.{◌≡◌}
 use lib.ListN.{length}
 use Rattle.lists.specs.Lists.{turns}

@@ -1,5 +1,4 @@
 -- `dct::columns` meets its contract: each turn of the loop is a column. Assumes nothing.
-use Prim.Native.Nat.{◌-◌}
 use mathlib.Core.Path.{refl}
 use native.Mathlib.Omega.{arith}
 use Rattle.lists.specs.Lists.{turns}

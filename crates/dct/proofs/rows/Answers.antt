@@ -1,5 +1,4 @@
 -- `dct::rows` meets its contract: each turn of the loop is a row of a block. Assumes nothing.
-use Prim.Native.Nat.{◌-◌}
 use mathlib.Core.Path.{refl}
 use native.Mathlib.Omega.{arith}
 use Rattle.lists.specs.Lists.{turns}

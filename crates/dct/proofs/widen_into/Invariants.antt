@@ -1,5 +1,5 @@
 -- `dct::widen_into` meets its contract: each turn of the loop stores one number. Assumes nothing.
-use Prim.Native.Nat.{◌+◌, ◌≤◌, ◌-◌}
+use Prim.Native.Nat.{◌+◌, ◌≤◌}
 use mathlib.Core.Path.{◌≡◌}
 use lib.ListN.{length}
 use Rattle.lists.specs.Lists.{turns, store}

@@ -2,21 +2,17 @@
 use mathlib.Core.Path.{◌≡◌, sym, ◌∙◌}
 use native.Mathlib.Omega.{arith}
 use Rattle.distance.proofs.Sizes.{accepted}
-use Rattle.distance.proofs.Answers.{no-places, refused, given}
+use Rattle.distance.proofs.Answers.{no-places, given}
 use Rattle.distance.proofs.distance.Goals as goal
 
 pub returns-then-totals-ne3 : goal.returns-then-totals-ne3
 returns-then-totals-ne3 c = no-places _ _ _ _ _ c.if-totals-ne3.true
 
-pub returns-then-refused-ne-DONE : goal.returns-then-refused-ne-DONE
-returns-then-refused-ne-DONE c =
-    refused _ _ _ _ _ c.if-totals-ne3.false c.refusal-refused.result c.refusal-refused.ensures _ (λ z. omega (arith, c.if-refused-ne-DONE.true)) c.clear.ensures
-
 pub report_each-sum-requires : goal.report_each-sum-requires
 report_each-sum-requires c =
-    accepted _ _ _ _ (let z : c.refusal-refused.result ≡ 0 = omega (arith, c.if-refused-ne-DONE.false) in sym c.refusal-refused.ensures ∙ z)
+    accepted _ _ _ _ (let z : c.refusal-refused.result ≡ 0 = omega arith in sym c.refusal-refused.ensures ∙ z)
 
 pub returns : goal.returns
 returns c =
-    given _ _ _ _ _ c.if-totals-ne3.false c.refusal-refused.result c.refusal-refused.ensures _ _ _ (omega (arith, c.if-refused-ne-DONE.false)) c.report_each-sum.ensures.0
+    given _ _ _ _ _ c.if-totals-ne3.false c.refusal-refused.result c.refusal-refused.ensures _ _ _ (omega arith) c.report_each-sum.ensures.0
     c.report_each-sum.ensures.1 c.put.ensures

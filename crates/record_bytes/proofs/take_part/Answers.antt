@@ -1,9 +1,8 @@
 -- `record_bytes::take_part` meets its contract. Assumes nothing.
-use Prim.Native.Nat.{◌-◌}
 use mathlib.Core.Path.{◌≡◌, refl}
 use native.Mathlib.Omega.{arith}
 use lib.ListN.{length, length-set}
-use Rattle.lists.specs.Lists.{table, part}
+use Rattle.lists.specs.Lists.{part}
 use Rattle.lists.proofs.Table.{table_none, table-turn, table_done}
 use Rattle.record_bytes.proofs.take_part.Goals as goal
 

@@ -1,9 +1,7 @@
 -- `residue::add_all` meets its contract. Assumes nothing.
 use mathlib.Core.Path.{◌≡◌}
-use Prim.Native.Nat.{◌-◌}
 use native.Mathlib.Omega.{arith}
 use lib.ListN.{length, length-set}
-use Rattle.lists.specs.Lists.{table}
 use Rattle.lists.proofs.Table.{table_none}
 use Rattle.residue.proofs.Sums.{sum-turn, sum_done}
 use borrow.Author.Rules.{rules}

@@ -1,9 +1,7 @@
 -- `residue::block_pixels` meets its contract. Assumes nothing.
 use mathlib.Core.Path.{◌≡◌, refl}
-use Prim.Native.Nat.{◌-◌}
 use native.Mathlib.Omega.{arith}
 use lib.ListN.{replicate}
-use Rattle.lists.specs.Lists.{table}
 use Rattle.lists.proofs.Table.{table_none}
 use Rattle.residue.proofs.Sums.{sum-turn, sum_done}
 use Rattle.residue.proofs.block_pixels.Goals as goal

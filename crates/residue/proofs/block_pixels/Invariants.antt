@@ -1,7 +1,7 @@
 -- `residue::block_pixels` meets its contract. Assumes nothing.
 use mathlib.Core.Path.{◌≡◌}
 use mathlib.Core.List.{◌++◌}
-use Prim.Native.Nat.{◌-◌, ◌≤◌}
+use Prim.Native.Nat.{◌≤◌}
 use lib.ListN.{drop, replicate}
 use Rattle.lists.specs.Lists.{table}
 use Rattle.residue.proofs.Sums.{sum_of}

@@ -1,9 +1,7 @@
 -- `slices::clear` meets its contract. Assumes nothing.
-use Prim.Native.Nat.{◌-◌}
 use mathlib.Core.Path.{◌≡◌, refl, ◌∙◌}
 use native.Mathlib.Omega.{arith}
 use lib.ListN.{length, length-set}
-use Rattle.lists.specs.Lists.{table}
 use Rattle.lists.proofs.Table.{table_none, table-turn, table_done, table_same}
 use Rattle.slices.specs.Copies.{cleared}
 use Rattle.slices.proofs.clear.Goals as goal

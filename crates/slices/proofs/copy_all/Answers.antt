@@ -1,9 +1,7 @@
 -- `slices::copy_all` meets its contract. Assumes nothing.
-use Prim.Native.Nat.{◌-◌}
 use mathlib.Core.Path.{refl}
 use native.Mathlib.Omega.{arith}
-use lib.ListN.{length, length-set}
-use Rattle.lists.specs.Lists.{table}
+use lib.ListN.{length-set}
 use Rattle.lists.proofs.Table.{table_none, table-turn}
 use Rattle.slices.proofs.Copied.{table-copied}
 use Rattle.slices.proofs.copy_all.Goals as goal

@@ -1,11 +1,9 @@
 -- `slices::copy_all_numbers` meets its contract. Assumes nothing.
-use Prim.Native.Nat.{◌-◌}
 use mathlib.Core.Path.{refl}
 use native.Mathlib.Omega.{arith}
 use borrow.Author.Rules.{rules}
 use lib.IntN.{pos}
-use lib.ListN.{length, length-set}
-use Rattle.lists.specs.Lists.{table}
+use lib.ListN.{length-set}
 use Rattle.lists.proofs.Table.{table_none, table-turn}
 use Rattle.slices.proofs.Copied.{table-copied}
 use Rattle.slices.proofs.copy_all_numbers.Goals as goal

@@ -1,10 +1,8 @@
 -- `wht::pass` meets its contract: before turn c the first c columns stand as rows. Assumes nothing.
 use mathlib.Core.Path.{◌≡◌, refl}
-use Prim.Native.Nat.{◌-◌}
 use native.Mathlib.Omega.{arith}
 use lib.IntN.{pos}
 use lib.ListN.{replicate}
-use Rattle.lists.specs.Lists.{table}
 use Rattle.lists.proofs.Table.{table_none, table_done}
 use Rattle.wht.specs.Pass.{passed_at, passed}
 use Rattle.wht.proofs.Passes.{column-small, pass-turn}

@@ -1,11 +1,11 @@
 -- `wht::pass` meets its contract: before turn c the first c columns stand as rows. Assumes nothing.
 use mathlib.Core.Path.{◌≡◌}
 use mathlib.Core.List.{◌++◌}
-use Prim.Native.Nat.{◌*◌, ◌-◌, ◌≤◌}
+use Prim.Native.Nat.{◌*◌, ◌≤◌}
 use lib.IntN.{pos}
 use lib.ListN.{drop, replicate}
 use Rattle.lists.specs.Lists.{table}
-use Rattle.wht.specs.Pass.{passed_at, passed}
+use Rattle.wht.specs.Pass.{passed_at}
 use Rattle.wht.proofs.pass.Given as goal
 
 abbrev pub invariant-loop-c : goal.invariant-loop-c

@@ -1,11 +1,9 @@
 -- `wht::rounded` meets its contract. Assumes nothing.
 use mathlib.Core.Path.{◌≡◌, refl, ap, ◌∙◌}
-use Prim.Native.Nat.{◌-◌}
 use native.Mathlib.Omega.{arith}
 use Prim.Native.Nat.{◌≤◌}
 use lib.IntN.{ℤ, pos, nat_abs}
 use lib.ListN.{replicate}
-use Rattle.lists.specs.Lists.{table}
 use Rattle.lists.proofs.Table.{table_none, table-turn, table_done}
 use Rattle.whole.proofs.Held.{R32, held16}
 use Rattle.whole.proofs.Chain.{Is, known, held, bound}

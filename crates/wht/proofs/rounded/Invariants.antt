@@ -1,7 +1,7 @@
 -- `wht::rounded` meets its contract. Assumes nothing.
 use mathlib.Core.Path.{◌≡◌}
 use mathlib.Core.List.{List, ◌++◌}
-use Prim.Native.Nat.{ℕ, ◌-◌, ◌≤◌}
+use Prim.Native.Nat.{ℕ, ◌≤◌}
 use lib.IntN.{ℤ, pos}
 use lib.ListN.{get_or, drop, replicate}
 use Rattle.lists.specs.Lists.{table}

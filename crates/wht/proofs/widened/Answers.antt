@@ -1,11 +1,9 @@
 -- `wht::widened` meets its contract. Assumes nothing.
 use mathlib.Core.Path.{◌≡◌, refl, ◌∙◌}
-use Prim.Native.Nat.{◌-◌}
 use native.Mathlib.Omega.{arith}
 use lib.IntN.{pos}
 use lib.ListN.{replicate}
 use lib.Seq.{take_all}
-use Rattle.lists.specs.Lists.{table}
 use Rattle.lists.proofs.Table.{table_none, table-turn, table_done, table-take}
 use Rattle.whole.proofs.Held.{held16, held32}
 use borrow.Author.Rules.{rules}

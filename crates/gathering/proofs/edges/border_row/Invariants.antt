@@ -1,5 +1,5 @@
 -- `gathering::edges::border_row` meets its contract: a loop that fills dst from the front. Assumes nothing.
-use Prim.Native.Nat.{◌+◌, ◌-◌, ◌≤◌}
+use Prim.Native.Nat.{◌+◌, ◌≤◌}
 use mathlib.Core.Path.{◌≡◌}
 use lib.ListN.{length}
 use Rattle.lists.specs.Lists.{turns, store}

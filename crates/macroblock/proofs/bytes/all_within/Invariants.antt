@@ -1,5 +1,5 @@
 -- `macroblock::bytes::all_within` meets its contract: after k turns the flag says it of the first k bytes. Assumes nothing.
-use Prim.Native.Nat.{◌≤◌, ◌-◌}
+use Prim.Native.Nat.{◌≤◌}
 use mathlib.Core.Path.{◌≡◌}
 use lib.ListN.{length}
 use Rattle.lists.specs.Lists.{within}

@@ -1,9 +1,8 @@
 -- `macroblock::neighbors::cut` meets its contract. Assumes nothing.
-use Prim.Native.Nat.{◌-◌}
 use mathlib.Core.Path.{◌≡◌, refl}
 use native.Mathlib.Omega.{arith}
 use lib.ListN.{length, length-set}
-use Rattle.lists.specs.Lists.{table, part}
+use Rattle.lists.specs.Lists.{part}
 use Rattle.lists.proofs.Table.{table_none, table-turn, table_done}
 use Rattle.macroblock.proofs.neighbors.cut.Goals as goal
 

@@ -1,5 +1,5 @@
 -- `planes::chroma::add_blocks` meets its contract. Assumes nothing.
-use Prim.Native.Nat.{◌-◌, ◌≤◌}
+use Prim.Native.Nat.{◌≤◌}
 use mathlib.Core.Path.{◌≡◌}
 use Rattle.lists.specs.Lists.{turns}
 use Rattle.planes.specs.Steps.{row_added}

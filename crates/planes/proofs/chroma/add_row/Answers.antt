@@ -1,9 +1,7 @@
 -- `planes::chroma::add_row` meets its contract. Assumes nothing.
-use Prim.Native.Nat.{◌-◌}
 use mathlib.Core.Path.{refl}
 use Rattle.lists.specs.Lists.{turns}
 use Rattle.lists.proofs.Turns.{turns-step, turns-done}
-use Rattle.rfc6386.specs.Residue.{sum}
 use Rattle.planes.specs.Steps.{row_added}
 use native.Mathlib.Omega.{arith}
 use borrow.Author.Rules.{rules}

@@ -1,10 +1,9 @@
 -- `planes::chroma::clipped` meets its contract. Assumes nothing.
-use Prim.Native.Nat.{◌-◌, ◌≤◌}
+use Prim.Native.Nat.{◌≤◌}
 use mathlib.Core.Path.{◌≡◌, refl}
 use native.Mathlib.Omega.{arith}
 use Rattle.lists.specs.Lists.{total}
 use Rattle.lists.proofs.Total.{total-turn}
-use Rattle.planes.specs.Steps.{row_clipped}
 use Rattle.planes.proofs.Counts.{row-≤}
 use Rattle.planes.proofs.chroma.clipped.Goals as goal
 

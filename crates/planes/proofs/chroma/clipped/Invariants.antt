@@ -1,5 +1,5 @@
 -- `planes::chroma::clipped` meets its contract. Assumes nothing.
-use Prim.Native.Nat.{◌-◌, ◌≤◌, ◌*◌}
+use Prim.Native.Nat.{◌≤◌, ◌*◌}
 use mathlib.Core.Path.{◌≡◌}
 use Rattle.lists.specs.Lists.{total}
 use Rattle.planes.specs.Steps.{row_clipped}

@@ -1,8 +1,7 @@
 -- `planes::chroma::row_clipped` meets its contract. Assumes nothing.
-use Prim.Native.Nat.{◌-◌, ◌≤◌}
+use Prim.Native.Nat.{◌≤◌}
 use mathlib.Core.Path.{◌≡◌, refl}
 use native.Mathlib.Omega.{arith}
-use Rattle.clipping.specs.Clipped.{over}
 use Rattle.lists.specs.Lists.{total}
 use Rattle.lists.proofs.Total.{total-turn}
 use Rattle.clipping.proofs.Counted.{over-≤}

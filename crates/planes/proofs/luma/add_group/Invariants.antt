@@ -1,5 +1,5 @@
 -- `planes::luma::add_group` meets its contract. Assumes nothing.
-use Prim.Native.Nat.{◌+◌, ◌*◌, ◌-◌, ◌≤◌}
+use Prim.Native.Nat.{◌+◌, ◌*◌, ◌≤◌}
 use mathlib.Core.Path.{◌≡◌}
 use lib.ListN.{get_or, set}
 use Rattle.lists.specs.Lists.{turns}

@@ -1,11 +1,10 @@
 -- `planes::luma::coded` meets its contract. Assumes nothing.
-use Prim.Native.Nat.{◌-◌, ◌≤◌}
+use Prim.Native.Nat.{◌≤◌}
 use mathlib.Core.Path.{◌≡◌, refl}
 use native.Mathlib.Omega.{arith}
 use Rattle.lists.specs.Lists.{turns, total}
 use Rattle.lists.proofs.Turns.{turns-step}
 use Rattle.lists.proofs.Total.{total-turn}
-use Rattle.planes.specs.Steps.{group_clipped}
 use Rattle.planes.proofs.Counts.{group-≤}
 use Rattle.planes.proofs.Whole.{luma-coded}
 use Rattle.planes.proofs.luma.coded.Goals as goal

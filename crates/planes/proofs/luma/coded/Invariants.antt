@@ -1,5 +1,5 @@
 -- `planes::luma::coded` meets its contract. Assumes nothing.
-use Prim.Native.Nat.{◌-◌, ◌≤◌, ◌*◌}
+use Prim.Native.Nat.{◌≤◌, ◌*◌}
 use mathlib.Core.Path.{◌≡◌}
 use Rattle.lists.specs.Lists.{turns, total}
 use Rattle.rfc6386.specs.Dct.{idct_four}

@@ -1,7 +1,5 @@
 -- `residue::plane::ac_free` meets its contract. Assumes nothing.
 use mathlib.Core.Path.{◌≡◌, refl, ◌∙◌}
-use mathlib.Core.Logic.{⊎_elim}
-use Prim.Native.Nat.{◌-◌}
 use native.Mathlib.Omega.{arith}
 use Rattle.residue.specs.Answer.{zeros_to, ac_free}
 use Rattle.residue.proofs.AcFree.{still-free, not_free}
@@ -17,8 +15,8 @@ loop-k-preserved c =
     let m = c.t10-1.given in (
       omega arith,
       elim c.if-input-k-ne0.branch [
-        then-input-k-ne0 w ↦ w.free-is ∙ not_free _ c.loop-k.k m w.if-input-k-ne0.true
-      | else-input-k-ne0 w ↦ w.free-is ∙ still-free _ c.loop-k.k m _ c.loop-k.invariant.1 w.if-input-k-ne0.false
+        | then-input-k-ne0 w ↦ w.free-is ∙ not_free _ c.loop-k.k m w.if-input-k-ne0.true
+        | else-input-k-ne0 w ↦ w.free-is ∙ still-free _ c.loop-k.k m _ c.loop-k.invariant.1 w.if-input-k-ne0.false
       ],
     )
 

@@ -1,6 +1,6 @@
 -- `residue::plane::ac_free` meets its contract. Assumes nothing.
 use mathlib.Core.Path.{◌≡◌}
-use Prim.Native.Nat.{◌-◌, ◌≤◌}
+use Prim.Native.Nat.{◌≤◌}
 use Rattle.residue.specs.Answer.{zeros_to}
 use Rattle.residue.proofs.plane.ac_free.Given as goal
 

@@ -1,14 +1,14 @@
 -- `residue::plane::add_rows` meets its contract. Assumes nothing.
 use mathlib.Core.Path.{refl, ap, ◌∙◌}
-use Prim.Native.Nat.{ℕ, ◌+◌, ◌-◌, ◌*◌, ◌/◌, ◌%◌, ◌≤◌}
+use Prim.Native.Nat.{ℕ, ◌+◌, ◌*◌, ◌/◌, ◌%◌, ◌≤◌}
 use native.Mathlib.Nat.{mul-le-mul_right}
 use native.Mathlib.Omega.{arith}
 use lib.IntN.{pos}
-use lib.ListN.{length, get_or, set, length-set}
+use lib.ListN.{get_or, set, length-set}
 use Rattle.lists.specs.Lists.{turns}
 use Rattle.lists.proofs.Turns.{turns-step, turns-done}
 use Rattle.whole.proofs.Held.{held16}
-use Rattle.rfc6386.specs.Residue.{sum, sum_at, added_at}
+use Rattle.rfc6386.specs.Residue.{sum_at, added_at}
 use Rattle.residue.proofs.Part.{turn-in-part}
 use Rattle.residue.proofs.plane.add_rows.Goals as goal
 use Rattle.residue.proofs.plane.add_rows.Goals.{In-loop-i}

@@ -1,6 +1,6 @@
 -- `residue::plane::clipped_rows` meets its contract: after i turns the count is that of the first i sums. Assumes nothing.
 use mathlib.Core.Path.{◌≡◌, refl}
-use Prim.Native.Nat.{◌-◌, ◌*◌, ◌/◌, ◌≤◌}
+use Prim.Native.Nat.{◌*◌, ◌/◌, ◌≤◌}
 use native.Mathlib.Nat.{mul-le-mul_right}
 use native.Mathlib.Omega.{arith}
 use Rattle.clipping.specs.Clipped.{clipped_at}

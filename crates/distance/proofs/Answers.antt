@@ -5,9 +5,8 @@
 -- Assumes nothing.
 use Prim.Native.Nat.{ℕ, ◌/◌}
 use mathlib.Core.List.{List}
-use mathlib.Core.Path.{◌≡◌, refl, sym, ap, ◌∙◌}
+use mathlib.Core.Path.{◌≡◌}
 use borrow.Author.Tests.{eq-eqb, ne_eqb}
-use lib.Dec.{eqb}
 use lib.ListN.{length}
 use Rattle.macroblock.specs.Reply.{wrong_length}
 use Rattle.plane_distance.specs.Apart.{no_distance}

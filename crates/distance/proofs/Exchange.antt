@@ -2,15 +2,14 @@
 use Prim.Native.Nat.{ℕ, zero, suc, ◌+◌, ◌*◌, ◌/◌}
 use mathlib.Core.Bool.{Bool, true, false}
 use mathlib.Core.List.{List}
-use mathlib.Core.Path.{◌≡◌, refl, sym, ap, ◌∙◌}
+use mathlib.Core.Path.{◌≡◌, refl, sym, ap}
 use native.Mathlib.Omega.{arith}
 use borrow.Author.Tests.{eq-eqb}
 use lib.Dec.{eqb, eqb→eq}
 use lib.ListN.{length, get_or}
-use Rattle.lists.specs.Lists.{pick, both, total, joined}
+use Rattle.lists.specs.Lists.{pick, both, joined}
 use Rattle.lists.proofs.Tests.{same_test, true-T}
-use Rattle.plane_distance.specs.Sums.{largest}
-use Rattle.plane_distance.specs.Apart.{apart, apart_at, square_at, same_at, distance_from}
+use Rattle.plane_distance.specs.Apart.{apart_at, square_at, same_at, distance_from}
 use Rattle.plane_distance.specs.declared.Distance.{Distance}
 use Rattle.lists.proofs.Total.{total_ext}
 use Rattle.plane_distance.proofs.Totals.{largest-ext}

@@ -1,16 +1,14 @@
 -- A still is the distance of its own part of both planes. Assumes nothing.
-use Prim.Native.Nat.{ℕ, ◌+◌, ◌-◌, ◌*◌, ◌%◌, ◌<◌, ◌≤◌}
-use mathlib.Core.Bool.{Bool, true}
+use Prim.Native.Nat.{ℕ, ◌+◌, ◌-◌, ◌%◌, ◌<◌, ◌≤◌}
+use mathlib.Core.Bool.{true}
 use mathlib.Core.List.{List}
-use mathlib.Core.Path.{◌≡◌, refl, sym, ap, ◌∙◌}
+use mathlib.Core.Path.{◌≡◌, refl}
 use native.Mathlib.Nat.{zero-add}
 use native.Mathlib.Omega.{arith}
 use borrow.Author.Tests.{eq-eqb, le-leb}
 use lib.ListN.{length, get_or, take, drop, length-drop}
 use lib.Seq.{length-take-le, get_or-take, get_or-drop}
-use Rattle.lists.specs.Lists.{total}
-use Rattle.plane_distance.specs.Sums.{largest}
-use Rattle.plane_distance.specs.Apart.{apart, apart_at, square_at, same_at, distance_from, comparable, plane_distance}
+use Rattle.plane_distance.specs.Apart.{apart_at, square_at, same_at, distance_from, comparable, plane_distance}
 use Rattle.plane_distance.specs.declared.Distance.{Distance}
 use Rattle.lists.proofs.Total.{total_ext}
 use Rattle.plane_distance.proofs.Totals.{largest-ext}

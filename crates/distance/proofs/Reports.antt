@@ -4,21 +4,21 @@
 --     sum-turn                     one still more
 --     squares-≤, equal-≤           how far the sums grow: at most 65,025 a pixel, and 1 a pixel
 -- Assumes nothing.
-use Prim.Native.Nat.{ℕ, zero, suc, ◌+◌, ◌*◌, ◌≤◌, ◌<◌, max}
+use Prim.Native.Nat.{ℕ, zero, suc, ◌+◌, ◌*◌, ◌≤◌}
 use mathlib.Core.List.{List, [], ◌∷◌, ◌++◌, append_assoc, append-nil}
 use mathlib.Core.Path.{◌≡◌, refl, sym, ap, ◌∙◌}
 use native.Mathlib.Nat.{mul-zero, mul-suc}
 use native.Mathlib.Numerals.{add-one}
 use native.Mathlib.Omega.{arith}
 use borrow.Rule.Slice.PartMut.{put_mid}
-use lib.ListN.{length, set, take, drop, length-append}
+use lib.ListN.{length, set, drop, length-append}
 use lib.Seq.{take_at, drop_at, drop-drop, drop-length}
 use Rattle.lists.specs.Lists.{turns, total, joined}
 use Rattle.lists.proofs.Turns.{turns-step}
 use Rattle.plane_distance.specs.Sums.{largest}
 use Rattle.plane_distance.specs.Apart.{no_distance, together}
 use Rattle.plane_distance.specs.declared.Distance.{Distance}
-use Rattle.distance.specs.Stills.{report_of, put_report, still_at, reported, summed}
+use Rattle.distance.specs.Stills.{report_of, put_report, still_at, summed}
 
 pub three : (l : List ℕ) (a b c : ℕ) → length l ≡ 3 → set (set (set l 0 a) 1 b) 2 c ≡ a ∷ b ∷ c ∷ []
 three [] a b c e = absurd (omega (arith, e))

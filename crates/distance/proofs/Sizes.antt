@@ -1,15 +1,15 @@
 -- What the tests of the sizes and the lengths say, and how many pixels a still and a list have at most. Assumes nothing.
 use Prim.Native.Nat.{ℕ, zero, suc, ◌+◌, ◌-◌, ◌*◌, ◌/◌, ◌%◌, ◌<◌, ◌≤◌}
 use mathlib.Core.Bool.{Bool, true, false}
-use mathlib.Core.List.{List, [], ◌∷◌}
+use mathlib.Core.List.{List}
 use mathlib.Core.Logic.{⊎_elim}
-use mathlib.Core.Path.{◌≡◌, refl, sym, ap, ◌∙◌}
-use native.Mathlib.Nat.{mul-le-mul, mul_comm, eq-or-lt_of_le, le_of_suc-le-suc}
+use mathlib.Core.Path.{◌≡◌, refl, ap}
+use native.Mathlib.Nat.{mul-le-mul, eq-or-lt_of_le, le_of_suc-le-suc}
 use native.Mathlib.Numerals.{add-one}
 use native.Mathlib.Omega.{arith}
-use borrow.Author.Tests.{lt-ltb, le-leb, le-ltb, leb-true, eq-eqb, ne_eqb, eqb-true, ltb-true, ltb-false}
+use borrow.Author.Tests.{lt-ltb, le-leb, le-ltb, leb-true, eq-eqb, ne_eqb, eqb-true, ltb-false}
 use lib.Dec.{eqb, leb, ltb}
-use lib.ListN.{length, get_or, set}
+use lib.ListN.{length, get_or}
 use Rattle.lists.specs.Lists.{pick, both, total}
 use Rattle.lists.proofs.Tests.{left-holds, right-holds}
 use Rattle.macroblock.specs.Reply.{done, wrong_length, outside_picture}

@@ -2,7 +2,7 @@
 --     sides_ok         every side is from 1 to 1,024
 --     lengths_ok       two numbers a still; both slices have the pixels of all stills; three numbers a report
 --     refusal         12 for more than 4,096 stills, then 7, then 1; 0 where none holds
-use Rattle.std.specs.Prelude.{ℕ, zero, suc, ◌-◌, ◌*◌, ◌/◌, ◌%◌, ◌≤◌, Bool, true, false, ◌≡◌, List, [], ◌∷◌, eqb, leb, ltb, length, get_or}
+use Rattle.std.specs.Prelude.{ℕ, zero, suc, ◌-◌, ◌*◌, ◌/◌, ◌%◌, ◌≤◌, Bool, true, ◌≡◌, List, eqb, leb, ltb, length, get_or}
 use Rattle.lists.specs.Lists.{pick, both, ◌beside◌}
 use Rattle.macroblock.specs.Reply.{done, wrong_length, outside_picture}
 use Rattle.plane_distance.specs.Apart.{no_distance}

@@ -4,7 +4,7 @@
 --     still_at k        its distance, pixel by pixel
 --     reported n       three numbers for each of the first n: sum of squares, largest difference, equal pixels
 --     summed n         the same over the first n together
-use Rattle.std.specs.Prelude.{ℕ, ◌+◌, ◌*◌, ◌/◌, List, [], ◌∷◌, length, get_or}
+use Rattle.std.specs.Prelude.{ℕ, ◌+◌, ◌*◌, List, [], ◌∷◌, get_or}
 use borrow.Rule.Slice.PartMut.{put_mid}
 use Rattle.lists.specs.Lists.{total, joined}
 use Rattle.plane_distance.specs.Sums.{largest}

@@ -183,6 +183,7 @@ fn report_each(sizes: &[u32], drawn: &[u8], measured: &[u8], reports: &mut [u64]
 // The reports of a list of stills, and the same over the list. Refused: totals of another length than 3 (1, nothing written);
 // more than 4,096 stills (12); a side outside 1 to 1,024 (7); an odd number of sides, planes of other lengths than the
 // stills', reports of another length than three numbers a still (1). Reports then stay as found, and the totals are zeros.
+#[tactic(auto, using(crate::proofs::Answers::refused))]
 pub fn distance(
     sizes: &[u32],
     drawn: &[u8],
@@ -190,7 +191,7 @@ pub fn distance(
     reports: &mut [u64],
     totals: &mut [u64],
 ) -> u32
-    ensures { (result beside (λ x. x.now) reports.exit beside (λ x. x.now) totals.exit)
+    ensures { (result beside reports.new beside totals.new)
         ≡ distance_answer sizes.now drawn.now measured.now reports.old totals.old }
 {
     if totals.len() != 3 {

@@ -18,7 +18,6 @@ use Rattle.picture_limits.proofs.Accepted.{Within}
 use Rattle.reconstruct.specs.declared.ReconstructedMb.{ReconstructedMb}
 use Rattle.gathering.specs.Answers.{gathered}
 use Rattle.canvas.specs.Into.{made, clipped_into}
-use Rattle.drawing.specs.Drawn.{drawn}
 use Rattle.still.specs.Picture.{Progress, first, picture, count_at, count_in, first_clipped, picture_clipped}
 use Rattle.still_laws.specs.Words.{luma_byte, chroma_byte, skip_byte, subs_at, coeffs_at, made_at, Finished}
 use Rattle.still_laws.proofs.First.{first_step, step-accepted, first-refused, drawn-finished}

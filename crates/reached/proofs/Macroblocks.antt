@@ -31,7 +31,7 @@ use Rattle.still.specs.Picture.{Progress, drawn_at, turn, first, picture, right_
 use Rattle.still.specs.Answers.{lengths_ok, still_answer, alone_answer}
 use Rattle.still_laws.specs.Words.{in_y, in_u, in_v}
 use Rattle.reached.proofs.SubBlocks.{differ-at}
-use Rattle.later_laws.specs.Calls.{Given, SameAt, SameBut, SamePixels, still_of, alone_of}
+use Rattle.later_laws.specs.Calls.{Given, SameBut, SamePixels, still_of, alone_of}
 
 -- 1,600 coefficients, of which the one at `at` is x and all others 0
 abbrev only : ℕ → ℕ → List ℤ

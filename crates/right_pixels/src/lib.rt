@@ -43,6 +43,7 @@ pub fn right_pixels(y: &[u8], cols: usize, rows: usize, row: usize) -> RightPixe
 }
 
 // A size of at most 1,024 macroblocks a side, and a row inside it that has one above.
+#[tactic(auto, unfolding(crate::specs::Answers::row_ok))]
 fn row_ok(cols: usize, rows: usize, row: usize) -> bool
     ensures { result ≡ row_ok cols rows row }
 {

@@ -17,8 +17,8 @@ use Rattle.shelf.specs.contracts.shelf as shelf
 use Rattle.shelf.proofs.shelf_few.Reads as few
 use Rattle.shelf.proofs.shelf_few.Kinds as few-k
 
--- `shelf` lends a slice of structs, for which no `Reads` is made. Its clause is read here in any model of the logic, as it was generated: what the clause
--- says of two answers to one call, put side by side, is that they are the same
+-- `shelf`'s clause is read in any model of the logic, as it was generated: what the clause says of two answers to one call, put side by side, is that they
+-- are the same
 module _ {M : Type 1} {𝓤 : Ura M} (𝓛 : Logic 𝓤) (mem : Memory → SProp 𝓤) (run : Routine → Fun 𝓤) (κs : Lfts 6)
     (a : ArgsD shelf.signature κs) where
   abbrev said : ℕ → AtExit shelf.ended κs → SProp 𝓤

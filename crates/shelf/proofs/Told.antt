@@ -1,65 +1,59 @@
 -- The answers of the two calls on jobs, from the plan and what the turns left. Assumes nothing.
-use Prim.Native.Nat.{ℕ, ◌+◌, ◌*◌, ◌<◌, ◌≤◌}
+use Prim.Native.Nat.{ℕ, ◌+◌, ◌<◌, ◌≤◌}
 use native.Mathlib.Nat.{le_of_lt, le_of_eq}
 use native.Mathlib.Omega.{arith}
 use borrow.Author.Tests.{ltb-true, ltb-false}
 use mathlib.Core.Path.{◌≡◌, refl, sym, ap, ◌∙◌}
 use mathlib.Core.Bool.{Bool, true, false}
-use mathlib.Core.List.{List, [], ◌∷◌}
-use borrow.Rule.Slice.PartMut.{put_mid}
+use mathlib.Core.List.{List}
 use lib.Dec.{ltb}
 use lib.IntN.{ℤ}
-use lib.ListN.{length, get_or, set, take}
+use lib.ListN.{length, get_or, take}
 use lib.Seq.{length-take-le, take_all}
+use Rattle.std.proofs.lemmas.List.{get_or_default}
 use Rattle.lists.specs.Lists.{pick, ◌beside◌}
-use Rattle.reconstruct.specs.declared.ReconstructedMb.{ReconstructedMb}
-use Rattle.drawing.specs.Drawn.{planes_of}
 use Rattle.shelf_items.specs.declared.Job.{Job}
 use Rattle.shelf_items.specs.declared.Plan.{Plan}
 use Rattle.shelf_items.specs.Shelf.{no_job, job_drawn, job_at, shelf_answer, few_answer}
-use Rattle.shelf_items.specs.Steps.{planned, begun, has_place}
-use Rattle.shelf_items.proofs.Turns.{out_after, replies_after, count_after, out-next, replies-next, count_next}
+use Rattle.shelf_items.specs.Steps.{planned, begun, has_place, PutIf}
+use Rattle.shelf_items.proofs.Turns.{out_after, replies_after, count_after, out-turn, replies-turn, count_turn}
 use Rattle.shelf_items.proofs.Answered.{answered, turn-ready}
 use Rattle.shelf_items.proofs.Places.{has-place}
 use Rattle.shelf_items.proofs.Items.{jobs-shape}
 use Rattle.shelf.specs.Few.{at_most32}
 
 -- ---- jobs
--- a turn: item k has its places, and is the job that was read
-chosen : {b : Bool} {x y : List ℕ} (z : List ℕ) → b ≡ true → x ≡ y → x ≡ pick b y z
-chosen z e p = rw e p
+-- the job that a turn reads, whatever would stand for one past the end
+is-job : (jobs : List Job) (subs : List ℕ) (coeffs : List ℤ) (k : ℕ) (d : Job) → k < length jobs
+    → job_drawn (get_or jobs k d) subs coeffs k ≡ job_at jobs subs coeffs k
+unfolding job_at
+is-job jobs subs coeffs k d inside = ap (λ (j : Job). job_drawn j subs coeffs k) (get_or_default jobs k d no_job inside)
 
+-- a turn: item k has its places, and what it makes of what the items before it left is what k + 1 items leave
 module _ (jobs : List Job) (subs : List ℕ) (coeffs : List ℤ) (out replies clipped : List ℕ) (k : ℕ) where
-  abbrev item : ℕ → ReconstructedMb
-  item = job_at jobs subs coeffs
-
-  abbrev start : List ℕ
-  start = begun (length jobs) (length subs) (length coeffs) (length out) (length replies) clipped
-
-  abbrev place : Bool
-  place = has_place k (length subs) (length coeffs) (length (out_after item k out)) (length (replies_after item k replies)) (count_after item k start)
-
-  module _ (l : k < (planned (length jobs) (length subs) (length coeffs) (length out) (length replies) (length clipped)).items)
-      (eo : length (out_after item k out) ≡ length out) (er : length (replies_after item k replies) ≡ length replies) where
-    there : place ≡ true
-    there =
-        has-place k (length subs) (length coeffs) (length (out_after item k out)) (length (replies_after item k replies)) (count_after item k start)
-        (turn-ready item (jobs-shape jobs subs coeffs) (length jobs) (length subs) (length coeffs) (length out) (length replies) clipped refl k l eo er refl refl)
-
-    pub job-out-next : out_after item (k + 1) out
-        ≡ pick place (put_mid (384 * k) 384 (out_after item k out) (planes_of (job_drawn (get_or jobs k no_job) subs coeffs k))) (out_after item k out)
-    unfolding job_at
-    job-out-next = chosen (out_after item k out) there (out-next item k out)
-
-    pub job-reply-next : replies_after item (k + 1) replies
-        ≡ pick place (set (replies_after item k replies) k (job_drawn (get_or jobs k no_job) subs coeffs k).reply) (replies_after item k replies)
-    unfolding job_at
-    job-reply-next = chosen (replies_after item k replies) there (replies-next item k replies)
-
-    pub job-count-next : count_after item (k + 1) start
-        ≡ pick place ((get_or (count_after item k start) 0 0 + (job_drawn (get_or jobs k no_job) subs coeffs k).clipped) ∷ []) (count_after item k start)
-    unfolding job_at
-    job-count-next = chosen (count_after item k start) there (count_next item k start)
+  pub turned : {p : Plan} {start o r c z s m : List ℕ} (d : Job)
+      → p ≡ planned (length jobs) (length subs) (length coeffs) (length out) (length replies) (length clipped)
+      → start ≡ begun (length jobs) (length subs) (length coeffs) (length out) (length replies) clipped
+      → k < p.items → k < length jobs
+      → o ≡ out_after (job_at jobs subs coeffs) k out
+      → r ≡ replies_after (job_at jobs subs coeffs) k replies
+      → c ≡ count_after (job_at jobs subs coeffs) k start
+      → length o ≡ length out → length r ≡ length replies
+      → PutIf (has_place k (length subs) (length coeffs) (length o) (length r) c) k (job_drawn (get_or jobs k d) subs coeffs k) o r c z s m
+      → (z ≡ out_after (job_at jobs subs coeffs) (k + 1) out)
+      × (s ≡ replies_after (job_at jobs subs coeffs) (k + 1) replies)
+      × (m ≡ count_after (job_at jobs subs coeffs) (k + 1) start)
+  turned {start = start} {o = o} {r = r} {c = c} d ep es l inside eo er ec lo lr put =
+      let item = job_at jobs subs coeffs in
+      let there : has_place k (length subs) (length coeffs) (length o) (length r) c ≡ true =
+      has-place k (length subs) (length coeffs) (length o) (length r) c
+      (turn-ready item (jobs-shape jobs subs coeffs) (length jobs) (length subs) (length coeffs) (length out) (length replies) clipped ep k l lo lr es ec) in
+      let same = is-job jobs subs coeffs k d inside in
+      let all = rw there at put in (
+        out-turn item k out o _ same eo all.0,
+        replies-turn item k replies r _ same er all.1,
+        count_turn item k start c _ same ec all.2,
+      )
 
 module _ (jobs : List Job) (subs : List ℕ) (coeffs : List ℤ) (out replies clipped : List ℕ) where
   pub jobs-told : (n : ℕ) → length jobs ≡ n → {p : Plan} {o r c : List ℕ}

@@ -21,7 +21,7 @@ pub fn shelf(
     replies: &mut [u8],
     clipped: &mut [u64],
 ) -> u32
-    ensures { (result beside (λ x. x.now) out.exit beside (λ x. x.now) replies.exit beside (λ x. x.now) clipped.exit)
+    ensures { (result beside out.new beside replies.new beside clipped.new)
         ≡ shelf_answer jobs.now sub_modes.now coeffs.now out.old replies.old clipped.old }
 {
     let plan = begin(
@@ -57,7 +57,7 @@ pub fn shelf_few(
     replies: &mut [u8],
     clipped: &mut [u64],
 ) -> u32
-    ensures { (result beside (λ x. x.now) out.exit beside (λ x. x.now) replies.exit beside (λ x. x.now) clipped.exit)
+    ensures { (result beside out.new beside replies.new beside clipped.new)
         ≡ few_answer jobs count sub_modes.now coeffs.now out.old replies.old clipped.old }
 {
     let n = at_most_32(count);

@@ -221,7 +221,7 @@ pub fn shelf_bytes(
     replies: &mut [u8],
     clipped: &mut [u64],
 ) -> u32
-    ensures { (result beside (λ x. x.now) out.exit beside (λ x. x.now) replies.exit beside (λ x. x.now) clipped.exit)
+    ensures { (result beside out.new beside replies.new beside clipped.new)
         ≡ bytes_answer modes.now records.now sub_modes.now coeffs.now
         out.old replies.old clipped.old }
 {

@@ -37,6 +37,7 @@ module _ (w : ℕ) (f : ℕ → List ℕ) (size : (k : ℕ) → length (f k) ≡
 
   pub item-at : (n k : ℕ) → k < n → item_of w k (joined n f) ≡ f k
   unfolding joined
+  item-at zero k h = absurd (omega (arith, h))
   item-at (suc n) k h =
       let below : k ≤ n = omega (arith, h) in
       ⊎_elim

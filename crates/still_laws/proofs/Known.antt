@@ -20,7 +20,6 @@ use Rattle.drawing.specs.Drawn.{modes_known, modes_of, drawn_b, drawn_in, drawn}
 use Rattle.gathering.specs.Answers.{gathered}
 use Rattle.canvas.specs.Into.{made, drawn_into}
 use Rattle.still.specs.Picture.{Progress, drawn_at, turn}
-use Rattle.still.proofs.Sizes.{fits}
 use Rattle.still_laws.specs.Words.{luma_byte, chroma_byte, skip_byte, subs_at, coeffs_at, made_at, bytes_known}
 use Rattle.still_laws.proofs.Unread.{luma-says}
 use Rattle.still_laws.proofs.Walked.{mode-B, luma-known}

@@ -10,7 +10,7 @@ use borrow.Author.Tests.{eqb-true}
 use lib.Dec.{eqb, leb}
 use lib.IntN.{ℤ}
 use lib.ListN.{length, drop}
-use Rattle.lists.specs.Lists.{pick, both, within}
+use Rattle.lists.specs.Lists.{pick, both}
 use Rattle.lists.proofs.Tests.{both-says, T_true}
 use Rattle.macroblock.specs.Reply.{done, wrong_length, unknown_byte}
 use Rattle.macroblock.specs.Modes.{mode_at, y_mode_at}

@@ -9,9 +9,6 @@ use Rattle.whole.proofs.Held.{held16}
 use native.Mathlib.Omega.{arith}
 use Rattle.blocks.proofs.take_padded.Goals as goal
 
--- same_length : tie.Need-same-length invariant-loop decreases-loop
--- same_length c = c.before.loop.invariant.2
-
 pub loop-k-init : goal.loop-k-init
 loop-k-init c = (omega arith, refl, refl, table_none _ _)
 
@@ -32,6 +29,3 @@ returns c =
     let out = c.args.out.now in
     let full : l.k ≡ length out = omega arith in
     table_done (length out) _ out _ (rw full at l.invariant.3) refl
-
--- inline, one of loop-k-init coefficient-requires offset_bounds-out-k bounds-out-k loop-k-smaller loop-k-preserved returns
--- λ c. same_length c

@@ -1,4 +1,4 @@
--- `picture_limits::size_ok` meets its contract: a size is one that has a place in its corner. Assumes nothing.
+-- `picture_limits::size_ok` meets its contract. Assumes nothing.
 use Rattle.rfc6386.specs.Picture.{size_ok}
 use Rattle.picture_limits.proofs.size_ok.Goals as goal
 

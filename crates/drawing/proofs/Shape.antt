@@ -1,5 +1,5 @@
 -- What the answer of every macroblock has: 256, 64 and 64 pixels, a reply of at most 8, and at most 384 sums counted. Assumes nothing.
-use Prim.Native.Nat.{ℕ, ◌+◌, ◌*◌, ◌≤◌}
+use Prim.Native.Nat.{ℕ, ◌*◌, ◌≤◌}
 use mathlib.Core.Path.{◌≡◌, refl, ◌∙◌}
 use mathlib.Core.Bool.{Bool, true, false}
 use mathlib.Core.List.{List, ◌++◌}
@@ -7,7 +7,7 @@ use native.Mathlib.Omega.{arith}
 use lib.Dec.{eqb, lit≤}
 use lib.IntN.{ℤ}
 use lib.ListN.{length, drop, length-append}
-use Rattle.lists.specs.Lists.{pick, within}
+use Rattle.lists.specs.Lists.{pick}
 use Rattle.lists.proofs.Rows.{rows-length}
 use Rattle.macroblock.specs.Reply.{wrong_length, b_pred, no_sub_modes, unknown_byte}
 use Rattle.macroblock.specs.declared.modes.IntraYMode.{IntraYMode}

@@ -3,16 +3,16 @@
 --     drawn-unmarked                 sub-block bytes that are not marked as there
 --     drawn-refused-counts-nothing, drawn-skipped-counts-nothing
 -- Assumes nothing.
-use Prim.Native.Nat.{ℕ, ◌+◌}
+use Prim.Native.Nat.{ℕ}
 use mathlib.Core.Path.{◌≡◌, refl}
 use mathlib.Core.Bool.{Bool, true, false}
 use mathlib.Core.List.{List}
 use borrow.Author.Tests.{eq-eqb}
 use lib.Dec.{eqb}
 use lib.IntN.{ℤ}
-use lib.ListN.{length, get_or, drop}
-use Rattle.lists.specs.Lists.{pick, part}
-use Rattle.macroblock.specs.Reply.{done, wrong_length, unknown_byte}
+use lib.ListN.{length, drop}
+use Rattle.lists.specs.Lists.{pick}
+use Rattle.macroblock.specs.Reply.{wrong_length, unknown_byte}
 use Rattle.macroblock.specs.declared.modes.MbModes.{MbModes}
 use Rattle.macroblock.specs.declared.neighbors.MbNeighbors.{MbNeighbors}
 use Rattle.rfc6386.specs.Edges.{is_b}

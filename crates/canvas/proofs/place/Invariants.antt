@@ -1,9 +1,9 @@
 -- `canvas::place` meets its contract. Assumes nothing.
-use Prim.Native.Nat.{◌≤◌, ◌-◌}
+use Prim.Native.Nat.{◌≤◌}
 use mathlib.Core.Path.{◌≡◌}
 use lib.ListN.{length}
 use Rattle.lists.specs.Lists.{turns}
-use Rattle.canvas.specs.Placed.{placed_row, placed}
+use Rattle.canvas.specs.Placed.{placed_row}
 use Rattle.canvas.proofs.place.Given as goal
 
 abbrev pub invariant-loop-i : goal.invariant-loop-i

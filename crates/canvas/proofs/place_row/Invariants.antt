@@ -1,5 +1,5 @@
 -- `canvas::place_row` meets its contract. Assumes nothing.
-use Prim.Native.Nat.{◌≤◌, ◌-◌, ◌+◌}
+use Prim.Native.Nat.{◌≤◌, ◌+◌}
 use mathlib.Core.Path.{◌≡◌}
 use lib.ListN.{get_or, length}
 use Rattle.lists.specs.Lists.{turns, store}

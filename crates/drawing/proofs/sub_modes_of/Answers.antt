@@ -1,12 +1,9 @@
 -- `drawing::sub_modes_of` meets its contract. Assumes nothing.
-use Prim.Native.Nat.{◌-◌}
 use mathlib.Core.Path.{◌≡◌, refl}
 use native.Mathlib.Omega.{arith}
-use lib.ListN.{length, length-set, replicate}
-use Rattle.lists.specs.Lists.{table}
+use lib.ListN.{length-set, replicate}
 use Rattle.lists.proofs.Table.{table_none, table-turn, table_done}
 use Rattle.macroblock.specs.declared.modes.IntraBmode.TheVariants as b
-use Rattle.macroblock.specs.Says.{b_mode}
 use Rattle.drawing.specs.Drawn.{sub_modes_of}
 use Rattle.drawing.proofs.sub_modes_of.Goals as goal
 

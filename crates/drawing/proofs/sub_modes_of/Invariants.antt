@@ -1,10 +1,9 @@
 -- `drawing::sub_modes_of` meets its contract. Assumes nothing.
-use Prim.Native.Nat.{◌≤◌, ◌-◌}
+use Prim.Native.Nat.{◌≤◌}
 use mathlib.Core.Path.{◌≡◌}
 use mathlib.Core.List.{◌++◌}
 use lib.ListN.{get_or, length, drop}
 use Rattle.lists.specs.Lists.{table}
-use Rattle.macroblock.specs.declared.modes.IntraBmode.TheVariants as b
 use Rattle.macroblock.specs.Says.{b_mode}
 use Rattle.drawing.proofs.sub_modes_of.Given as goal
 

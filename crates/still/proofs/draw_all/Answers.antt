@@ -1,12 +1,12 @@
 -- `still::draw_all` meets its contract. Assumes nothing.
-use Prim.Native.Nat.{◌-◌, ◌*◌}
+use Prim.Native.Nat.{◌*◌}
 use mathlib.Core.Path.{◌≡◌, refl, ◌∙◌}
 use native.Mathlib.Omega.{arith}
 use Rattle.lists.specs.Lists.{turns, total}
 use Rattle.lists.proofs.Turns.{turns-done}
 use Rattle.lists.proofs.Pairs.{pair, same-pair}
 use Rattle.lists.proofs.Total.{total-turn}
-use Rattle.still.specs.Picture.{turn, first, picture, first_clipped, picture_clipped, right_from}
+use Rattle.still.specs.Picture.{first, picture, first_clipped, picture_clipped}
 use Rattle.still.proofs.Sizes.{at_most, row_within}
 use Rattle.still.proofs.Turned.{again, ended, count_turn, count-ended}
 use Rattle.still.proofs.draw_all.Goals as goal

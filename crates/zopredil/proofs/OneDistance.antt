@@ -1,6 +1,6 @@
 -- The promise of `zopredil_distance` admits one answer only, and leaves one thing only in the reports and in the totals. Assumes nothing.
 use mathlib.Core.List.{List}
-use mathlib.Core.Path.{◌≡◌, sym, ap, ◌∙◌}
+use mathlib.Core.Path.{sym, ap, ◌∙◌}
 use Prim.Native.Nat.{ℕ}
 use Rattle.lists.proofs.Answer.{OneAnswerIn}
 use Rattle.zopredil.proofs.distances.zopredil_distance.Reads as distance

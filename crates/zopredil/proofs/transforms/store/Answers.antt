@@ -19,7 +19,5 @@ returns c =
     (held16 f.uv_dc t.1.1.1.1.0.1)
     (held16 f.uv_ac t.1.1.1.1.1.0.1)
 
-
-
 pub bounds-out-5 : goal.bounds-out-5
 bounds-out-5 c = simp length-set (search rules)

@@ -24,12 +24,3 @@ pub fn read_full(input: &mut impl Read, buf: &mut [u8]) -> io::Result<usize>
     }
     Ok(done)
 }
-
-// Writes a line to standard error: what failed, as the caller names it, a colon and the system's text for the error.
-pub fn fail(rt: &(impl Eprint + Alloc), what: &str, error: io::Error) -> io::Result<()> {
-    let said = format!(in rt.alloc(); "{error}")?;
-    match said.split_once(" (os error ") {
-        Some((text, _)) => eprintln!(rt; "{what}: {text}"),
-        None => eprintln!(rt; "{what}: {said}"),
-    }
-}

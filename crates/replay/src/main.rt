@@ -19,6 +19,13 @@ use std::{fs, io};
 fn main(rt: HostRuntime) -> io::Result<()> {
     match fs::open(&rt, "sample.bin") {
         Ok(mut file) => sample::replay(&rt, &mut file),
-        Err(error) => reading::fail(&rt, "sample.bin", error),
+        Err(error) => {
+            let said = format!(in rt.alloc(); "{error}")?;
+            // the system's text alone, without the number that std puts after it
+            match said.split_once(" (os error ") {
+                Some((text, _)) => eprintln!(rt; "sample.bin: {text}"),
+                None => eprintln!(rt; "sample.bin: {said}"),
+            }
+        }
     }
 }

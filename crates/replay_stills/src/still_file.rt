@@ -11,7 +11,12 @@ fn read(rt: &(impl Files + Eprint + Alloc), name: &str, bytes: &mut [u8]) -> io:
     match fs::open(rt, name) {
         Ok(mut file) => reading::read_full(&mut file, bytes),
         Err(error) => {
-            reading::fail(rt, name, error)?;
+            let said = format!(in rt.alloc(); "{error}")?;
+            // the system's text alone, without the number that std puts after it
+            match said.split_once(" (os error ") {
+                Some((text, _)) => eprintln!(rt; "{name}: {text}")?,
+                None => eprintln!(rt; "{name}: {said}")?,
+            }
             Ok(0)
         }
     }

@@ -9,21 +9,16 @@ ghost use Rattle.blocks.specs.Taken.{taken, residues_from};
 fn coefficient(coeffs: &[i16], at: usize, k: usize) -> i16
     ensures { result ≡ get_or coeffs.now (at + k) (pos 0) }
 {
-    if coeffs.len() <= at {
-        return 0;
-    }
-    if coeffs.len() - at <= k {
-        return 0;
-    }
-    coeffs[at + k]
+    coeffs.get(at.saturating_add(k)).copied().unwrap_or(0)
 }
 
 // As many as `out` has, of which some may lie past the slice's end.
+// Kept: written into an array that `taken` hands out, here and below: with a slice that may end, the two ways are told apart once.
 fn take_padded(out: &mut [i16], coeffs: &[i16], at: usize)
     ensures { out.new ≡ taken (length out.old) coeffs.now at }
 {
-    for k in 0..out.len() {
-        out[k] = coefficient(coeffs, at, k);
+    for (k, x) in out.iter_mut().enumerate() {
+        *x = coefficient(coeffs, at, k);
     }
 }
 
@@ -32,41 +27,41 @@ fn take_all(out: &mut [i16], coeffs: &[i16], at: usize)
     requires { at + length out.old ≤ length coeffs.now }
     ensures { out.new ≡ taken (length out.old) coeffs.now at }
 {
-    for k in 0..out.len() {
-        out[k] = coeffs[at + k];
-    }
+    let n = out.len();
+    out.copy_from_slice(&coeffs[at..at + n]);
 }
 
 fn take(out: &mut [i16], coeffs: &[i16], at: usize)
     ensures { out.new ≡ taken (length out.old) coeffs.now at }
 {
-    if coeffs.len() < at {
+    if coeffs.len() < at || coeffs.len() - at < out.len() {
         take_padded(out, coeffs, at);
-        return;
+    } else {
+        take_all(out, coeffs, at);
     }
-    if coeffs.len() - at < out.len() {
-        take_padded(out, coeffs, at);
-        return;
-    }
-    take_all(out, coeffs, at);
+}
+
+// The N from `at` on; 0 where the slice has ended.
+fn taken<const N: usize>(coeffs: &[i16], at: usize) -> [i16; N]
+    ensures { result ≡ taken N coeffs.now at }
+{
+    let mut out = [0i16; N];
+    take(&mut out, coeffs, at);
+    out
 }
 
 // The block at the start; 0 where the slice has ended.
 pub fn first(coeffs: &[i16]) -> [i16; 16]
     ensures { result ≡ taken 16 coeffs.now 0 }
 {
-    let mut out = [0i16; 16];
-    take(&mut out, coeffs, 0);
-    out
+    taken(coeffs, 0)
 }
 
 // The four blocks from `at` on; 0 where the slice has ended.
 pub fn four(coeffs: &[i16], at: usize) -> [i16; 64]
     ensures { result ≡ taken 64 coeffs.now at }
 {
-    let mut out = [0i16; 64];
-    take(&mut out, coeffs, at);
-    out
+    taken(coeffs, at)
 }
 
 // The residues of the four blocks from `at` on, side by side.

@@ -2,7 +2,6 @@
 use Rattle.std.specs.Prelude.{◌≡◌, ℕ, zero, suc, ◌+◌, ◌-◌, ◌*◌, ◌^◌, ◌<◌, ◌≤◌, Bool, List, length}
 use Rattle.bool_decoder.specs.BoolCoder.{Coder, bit_at, read_bool}
 use Rattle.bool_decoder.specs.declared.BoolDecoder.{BoolDecoder}
-use Rattle.bool_decoder.specs.declared.Bit.{Bit}
 
 -- n bits of a partition from bit k on, the first one highest
 unfoldable pub bits : List ℕ → ℕ → ℕ → ℕ
@@ -40,7 +39,7 @@ pub record After (bit : Bool) (prob : ℕ) (d r : BoolDecoder) : Type 0 where
   pub is : (src : List ℕ) (c : Coder) → Holds src d c → 15 ≤ d.held → (read_bool src prob c).got ≡ bit → Went src d r 7 (read_bool src prob c).next
 
 -- a sign, read at probability 128, shifts once at most
-pub record Takes (prob : ℕ) (d : BoolDecoder) (r : Bit) : Type 0 where
-  pub bit : (src : List ℕ) (c : Coder) → Holds src d c → r.bit ≡ (read_bool src prob c).got
-  pub next : (src : List ℕ) (c : Coder) → Holds src d c → 15 ≤ d.held → Went src d r.next 7 (read_bool src prob c).next
-  pub sign : (src : List ℕ) (c : Coder) → Holds src d c → 9 ≤ d.held → prob ≡ 128 → Went src d r.next 1 (read_bool src prob c).next
+pub record Takes (prob : ℕ) (d : BoolDecoder) (r : Bool × BoolDecoder) : Type 0 where
+  pub bit : (src : List ℕ) (c : Coder) → Holds src d c → r.0 ≡ (read_bool src prob c).got
+  pub next : (src : List ℕ) (c : Coder) → Holds src d c → 15 ≤ d.held → Went src d r.1 7 (read_bool src prob c).next
+  pub sign : (src : List ℕ) (c : Coder) → Holds src d c → 9 ≤ d.held → prob ≡ 128 → Went src d r.1 1 (read_bool src prob c).next

@@ -11,8 +11,7 @@ use Rattle.rfc6386.specs.Picture.{place_ok, sizes_ok, neighbors_of}
 use Rattle.picture_limits.specs.Place.{Placed}
 use Rattle.picture_limits.proofs.Accepted.{Within, Lengths, place-says, sizes-say}
 use Rattle.picture_limits.proofs.Bounds.{placed}
-use Rattle.gathering.specs.declared.Gathered.{Gathered}
-use Rattle.gathering.specs.Answers.{gathered, refused}
+use Rattle.gathering.specs.Answers.{Gathered, gathered, refused}
 
 both_hold : (a b : Bool) (g : Gathered) → (pick a (pick b g (refused wrong_length)) (refused outside_picture)).reply ≡ 0 → (a ≡ true) × (b ≡ true)
 both_hold true true g e = (refl, refl)

@@ -7,9 +7,8 @@ use borrow.Author.Tests.{eq-eqb, ne_eqb}
 use lib.IntN.{ℤ}
 use Rattle.lists.specs.Lists.{◌beside◌}
 use Rattle.lists.proofs.Pairs.{pair}
-use Rattle.gathering.specs.declared.Gathered.{Gathered}
-use Rattle.gathering.specs.Answers.{gathered}
-use Rattle.reconstruct.specs.declared.ReconstructedMb.{ReconstructedMb}
+use Rattle.gathering.specs.Answers.{Gathered, gathered}
+use Rattle.reconstruct.specs.Answers.{MbAnswer}
 use Rattle.drawing.specs.Drawn.{drawn}
 use Rattle.canvas.specs.Placed.{placed}
 use Rattle.canvas.specs.Into.{made, drawn_into, clipped_into, told_into}
@@ -20,7 +19,7 @@ module _ (w h c r luma chroma skip : ℕ) (subs right : List ℕ) (coeffs : List
   unfolding drawn_into clipped_into
   not-gathered k = rw (← e, ne_eqb g.reply 0 k)
 
-  module _ (z : g.reply ≡ 0) (m : ReconstructedMb) (d : m ≡ drawn luma chroma skip subs true g.neighbors coeffs) where
+  module _ (z : g.reply ≡ 0) (m : MbAnswer) (d : m ≡ drawn luma chroma skip subs true g.neighbors coeffs) where
     is_made : m ≡ made w h c r luma chroma skip subs right coeffs y u v
     unfolding made
     is_made = rw (← e) d

@@ -1,17 +1,18 @@
 -- One macroblock drawn at its place in the planes of its picture: its neighbours are gathered from the planes as they stand, the walkers make its
 -- pixels, and these are put in their place. A refusal of either leaves the planes as they were.
-use Rattle.std.specs.Prelude.{ℕ, true, List, eqb, ℤ}
+use Rattle.std.specs.Prelude.{ℕ, true, List, eqb, ℤ, Result, Ok, Err}
 use Rattle.lists.specs.Lists.{pick, ◌beside◌}
-use Rattle.macroblock.specs.Reply.{done}
+use Rattle.macroblock.specs.Reply.{done, number}
+use Rattle.macroblock.specs.declared.reply.Refusal.{Refusal}
 use Rattle.gathering.specs.Answers.{gathered}
-use Rattle.reconstruct.specs.declared.ReconstructedMb.{ReconstructedMb}
+use Rattle.reconstruct.specs.Answers.{MbAnswer}
 use Rattle.drawing.specs.Drawn.{drawn}
 use Rattle.canvas.specs.Placed.{placed}
 
 -- three mode bytes, sixteen sub-block bytes, the four pixels above right of the last column, and 400 coefficients
 module _ (w h c r luma chroma skip : ℕ) (subs right : List ℕ) (coeffs : List ℤ) (y u v : List ℕ) where
   -- what the walkers make of it
-  unfoldable pub made : ReconstructedMb
+  unfoldable pub made : MbAnswer
   made = drawn luma chroma skip subs true (gathered y u v w h c r right).neighbors coeffs
 
   -- the reply, beside the three planes
@@ -30,3 +31,8 @@ module _ (w h c r luma chroma skip : ℕ) (subs right : List ℕ) (coeffs : List
   -- both
   abbrev pub told_into : (ℕ × (List ℕ × (List ℕ × List ℕ))) × ℕ
   told_into = drawn_into beside clipped_into
+
+-- what the call tells, with the planes that it leaves: the count, or why the macroblock is refused
+abbrev pub told : Result ℕ Refusal → List ℕ → List ℕ → List ℕ → (ℕ × (List ℕ × (List ℕ × List ℕ))) × ℕ
+told (Ok clipped) y u v = (done beside y beside u beside v) beside clipped
+told (Err e) y u v = (number e beside y beside u beside v) beside 0

@@ -2,29 +2,20 @@
 #![tactic(auto)]
 
 ghost use Rattle.std.specs.Prelude.{◌≡◌, ◌+◌, ◌*◌, ◌≤◌, length, get_or};
-ghost use Rattle.lists.specs.Lists.{turns, store, ◌beside◌};
+ghost use Rattle.lists.specs.Lists.{turns, store};
 ghost use Rattle.picture_limits.specs.Place.{Placed};
 ghost use Rattle.canvas.specs.Placed.{placed};
-ghost use Rattle.canvas.specs.Into.{told_into};
+ghost use Rattle.canvas.specs.Into.{told, told_into};
 
-use macroblock::reply;
+use macroblock::Refusal;
 use reconstruct::ReconstructedMb;
-
-// The reply, and how many sums were below 0 or above 255.
-#[derive(Clone, Copy)]
-pub struct DrawnMb {
-    pub reply: u32,
-    pub clipped: u32,
-}
 
 // n pixels of the block from `from` on, put from `at` on.
 fn place_row(plane: &mut [u8], at: usize, block: &[u8], from: usize, n: usize)
     requires { (at + n ≤ length plane.old) × (from + n ≤ length block.now) }
     ensures { plane.new ≡ turns n (store (λ x. at + x) (λ x. get_or block.now (from + x) 0)) plane.old }
 {
-    for x in 0..n {
-        plane[at + x] = block[from + x];
-    }
+    plane[at..at + n].copy_from_slice(&block[from..from + n]);
 }
 
 // A block of n rows of n pixels in its place.
@@ -33,6 +24,7 @@ fn place(plane: &mut [u8], n: usize, cols: usize, col: usize, row: usize, block:
     ensures { plane.new ≡ placed n cols col row block.now plane.old }
 {
     let stride = n * cols;
+    // Kept: row i of the block and row i of the plane, two strides in one loop; no plainer.
     for i in 0..n {
         place_row(
             plane,
@@ -59,17 +51,15 @@ fn put(
         × (u.new ≡ placed 8 cols col row drawn.u u.old)
         × (v.new ≡ placed 8 cols col row drawn.v v.old) }
 {
-    let y_block = drawn.y;
-    let u_block = drawn.u;
-    let v_block = drawn.v;
-    place(y, 16, cols, col, row, &y_block);
-    place(u, 8, cols, col, row, &u_block);
-    place(v, 8, cols, col, row, &v_block);
+    place(y, 16, cols, col, row, &drawn.y);
+    place(u, 8, cols, col, row, &drawn.u);
+    place(v, 8, cols, col, row, &drawn.v);
 }
 
 // The macroblock in column `col` and row `row` of a picture of `cols` by `rows` macroblocks, from its three mode bytes, its
 // sixteen sub-block bytes and its 400 coefficients; `right` is read in the last column below the first row alone. Refused, and
-// nothing written: what gathering refuses (7, then 1), then what drawing refuses (1, then 8).
+// nothing written: what gathering refuses (7, then 1), then what drawing refuses (1, then 8). Answered is how many sums were
+// below 0 or above 255.
 pub fn draw_macroblock(
     cols: usize,
     rows: usize,
@@ -84,28 +74,12 @@ pub fn draw_macroblock(
     y: &mut [u8],
     u: &mut [u8],
     v: &mut [u8],
-) -> DrawnMb
-    ensures { ((result.reply beside y.new beside u.new beside v.new) beside result.clipped)
+) -> Result<u32, Refusal>
+    ensures { told result y.new u.new v.new
         ≡ told_into cols rows col row luma chroma skip sub_modes right coeffs.now y.old u.old v.old }
 {
-    let gathered = gathering::gather(y, u, v, cols, rows, col, row, right);
-    if gathered.reply != reply::DONE {
-        return DrawnMb {
-            reply: gathered.reply,
-            clipped: 0,
-        };
-    }
-    let neighbors = gathered.neighbors;
-    let drawn = drawing::draw(luma, chroma, skip, sub_modes, true, neighbors, coeffs);
-    if drawn.reply != reply::DONE {
-        return DrawnMb {
-            reply: drawn.reply,
-            clipped: drawn.clipped,
-        };
-    }
+    let neighbors = gathering::gather(y, u, v, cols, rows, col, row, right)?;
+    let drawn = drawing::draw(luma, chroma, skip, sub_modes, true, neighbors, coeffs)?;
     put(drawn, cols, col, row, y, u, v);
-    DrawnMb {
-        reply: reply::DONE,
-        clipped: drawn.clipped,
-    }
+    Ok(drawn.clipped)
 }

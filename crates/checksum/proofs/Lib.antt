@@ -1,2 +1,3 @@
--- Each promise of `checksum` admits one answer only.
+-- The laws of a checksum.
+--     OneAnswer   each promise admits one answer only
 pub mod OneAnswer

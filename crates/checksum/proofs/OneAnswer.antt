@@ -1,11 +1,11 @@
 -- Each promise of `checksum` admits one answer only. Assumes nothing.
 use Rattle.lists.proofs.Answer.{OneAnswer, same}
-use Rattle.checksum.proofs.start.Reads as start
-use Rattle.checksum.proofs.start.Kinds as start-k
-use Rattle.checksum.proofs.with_byte.Reads as with_byte
-use Rattle.checksum.proofs.with_byte.Kinds as with-byte-k
-use Rattle.checksum.proofs.with_bytes.Reads as with-bytes
-use Rattle.checksum.proofs.with_bytes.Kinds as with-bytes-k
+use Rattle.checksum.proofs.Checksum.start.Reads as start
+use Rattle.checksum.proofs.Checksum.start.Kinds as start-k
+use Rattle.checksum.proofs.Checksum.with_byte.Reads as with_byte
+use Rattle.checksum.proofs.Checksum.with_byte.Kinds as with-byte-k
+use Rattle.checksum.proofs.Checksum.with_bytes.Reads as with-bytes
+use Rattle.checksum.proofs.Checksum.with_bytes.Kinds as with-bytes-k
 
 pub start-one : OneAnswer 0 start-k.ps start-k.r start.Post
 start-one κs a x y s t = same

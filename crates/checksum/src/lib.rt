@@ -4,41 +4,37 @@
 ghost use Rattle.std.specs.Prelude.{◌≡◌};
 ghost use Rattle.checksum.specs.Adler.{begun, with_byte, with_bytes};
 
-#[derive(Clone, Copy)]
+#[derive(Clone, Copy, Debug, PartialEq, Eq)]
 pub struct Checksum {
     pub a: usize,
     pub b: usize,
 }
 
-// Of no bytes.
-pub fn start() -> Checksum
-    ensures { result ≡ begun }
-{
-    Checksum { a: 1, b: 0 }
-}
-
-fn wide(x: u8) -> usize
-    ensures { result ≡ x }
-{
-    x as usize
-}
-
-// One byte more.
-pub fn with_byte(sum: Checksum, byte: u8) -> Checksum
-    ensures { result ≡ with_byte sum byte }
-{
-    let a = (sum.a % 65521 + wide(byte)) % 65521;
-    let b = (sum.b % 65521 + a) % 65521;
-    Checksum { a, b }
-}
-
-// All bytes of a slice more.
-pub fn with_bytes(sum: Checksum, bytes: &[u8]) -> Checksum
-    ensures { result ≡ with_bytes sum bytes.now }
-{
-    let mut all = sum;
-    for i in 0..bytes.len() {
-        all = with_byte(all, bytes[i]);
+impl Checksum {
+    // Of no bytes.
+    pub fn start() -> Checksum
+        ensures { result ≡ begun }
+    {
+        Checksum { a: 1, b: 0 }
     }
-    all
+
+    // One byte more.
+    pub fn with_byte(self, byte: u8) -> Checksum
+        ensures { result ≡ with_byte self byte }
+    {
+        let a = (self.a % 65521 + usize::from(byte)) % 65521;
+        let b = (self.b % 65521 + a) % 65521;
+        Checksum { a, b }
+    }
+
+    // All bytes of a slice more.
+    pub fn with_bytes(self, bytes: &[u8]) -> Checksum
+        ensures { result ≡ with_bytes self bytes.now }
+    {
+        let mut sum = self;
+        for &byte in bytes {
+            sum = sum.with_byte(byte);
+        }
+        sum
+    }
 }

@@ -1,5 +1,5 @@
--- The count of a block: a turn of its loop, and an AC-free block, which counts the same by either way.
---     over-turn         one pixel more
+-- The count of a block: a sum over its pixels, and an AC-free block, which counts the same by either way.
+--     pairs-clipped     the sum over a block's pairs of a pixel and its residue
 --     sub-is-block      a sub-block counts as its residue's list does
 --     ac-free-block     the full transform and the DC-only one count the same; ac-free-at, in a plane
 --     ac-free-dc        and so does the first coefficient's closing rounding alone; ac-free-sub, of a sub-block
@@ -10,27 +10,36 @@ use mathlib.Core.List.{List}
 use Prim.Native.Nat.{ℕ, ◌+◌, ◌*◌, ◌/◌, ◌%◌, ◌<◌}
 use native.Mathlib.Omega.{arith}
 use lib.IntN.{ℤ, pos, ◌+ℤ◌}
-use lib.ListN.{get_or, get_or-replicate}
-use lib.Signed.{mag, shr_z}
+use lib.ListN.{length, get_or, get_or-replicate}
+use Rattle.std.specs.List.{sum_by, zip}
+use Rattle.std.proofs.lemmas.Slice.Zip.{length-zip, get_or-zip}
+use lib.Signed.{shr_z}
 use mir.Syntax.{w16}
 use mir.Val.{SFits}
-use Rattle.whole.proofs.Held.{R16, held16}
+use Rattle.whole.proofs.Held.{R16}
 use Rattle.rfc6386.specs.Dct.{residue, entry, idct, idct_dc}
 use Rattle.rfc6386.proofs.DctBlocks.{idct-at}
 use Rattle.rfc6386.proofs.DctDc.{residue-dc, dc-only-is-full}
 use Rattle.clipping.specs.Clipped.{over, block_clipped, clipped_at, dc_clipped, sub_clipped}
-use Rattle.lists.specs.Lists.{total}
-use Rattle.lists.proofs.Total.{total-turn, total_ext}
+use Rattle.lists.proofs.Total.{sum-total, total_ext}
 
 -- pixel i
 abbrev pub over_of : List ℕ → List ℤ → ℕ → ℕ
 over_of p r i = over (get_or p i 0) (get_or r i (pos 0))
 
-module _ (p : List ℕ) where
-  pub over-turn : (r : List ℤ) (i s v : ℕ) → s ≡ total i (over_of p r) → mag (get_or r i (pos 0)) < 32768
-      → v ≡ over (get_or p i 0) (R16 (get_or r i (pos 0))) → s + v ≡ total (i + 1) (over_of p r)
-  over-turn r i s v e m h = total-turn i (over_of p r) s v e (h ∙ ap (λ (z : ℤ). over (get_or p i 0) z) (held16 (get_or r i (pos 0)) m))
+-- the sum over the pairs of a pixel and its residue, as the machine has them
+abbrev pub counted : ℕ × ℤ → ℕ
+counted z = over z.0 (R16 z.1)
 
+pub pairs-clipped : (p : List ℕ) (r : List ℤ) → length p ≡ 16 → length r ≡ 16 → ((i : ℕ) → R16 (get_or r i (pos 0)) ≡ get_or r i (pos 0))
+    → sum_by counted (zip p r) ≡ block_clipped 16 p r
+unfolding block_clipped
+pairs-clipped p r h k w =
+    sum-total counted (zip p r) (0, pos 0) 16 (length-zip p r ∙ omega arith)
+    ∙ total_ext 16 (λ i. counted (get_or (zip p r) i (0, pos 0))) (over_of p r) (λ i l.
+    ap counted (get_or-zip p r i (0, pos 0) (omega arith) (omega arith)) ∙ ap (λ (z : ℤ). over (get_or p i 0) z) (w i))
+
+module _ (p : List ℕ) where
   pub sub-is-block : (l : List ℤ) → sub_clipped false p (entry l) ≡ block_clipped 16 p (idct l)
   unfolding sub_clipped block_clipped
   sub-is-block l =

@@ -1,5 +1,5 @@
 -- When a sum is counted.
---     below, above, inside     by the two tests of the code
+--     below, by-tests          by the two tests of the code
 --     outside-≤                at most once
 --     counted-exactly          a sum is not counted exactly where the pixel, which is the sum held within 0 and 255, is the sum itself
 --     at-the-stops            0 and 255 are not counted, -1 and 256 are
@@ -12,6 +12,7 @@ use borrow.Author.Tests.{ltb-true, ltb-false, le-ltb}
 use lib.Dec.{ltb, lit≤}
 use lib.IntN.{ℤ, pos, negsuc, ◌+ℤ◌}
 use lib.Signed.{lt_z}
+use mir.Val.{bool_byte}
 use Rattle.lists.specs.Lists.{pick}
 use Rattle.whole.specs.Whole.{clamp_to, clamp}
 use Rattle.whole.proofs.Clamp.{clamp-≤}
@@ -27,15 +28,23 @@ unfolding outside
 below (pos n) e = absurd (never (omega (arith, ltb-true n 0 e)))
 below (negsuc n) e = refl
 
-pub above : (z : ℤ) → lt_z (pos 255) z ≡ true → 1 ≡ outside z
+above : (z : ℤ) → lt_z (pos 255) z ≡ true → 1 ≡ outside z
 unfolding outside
 above (pos n) e = rw e
 above (negsuc n) e = refl
 
-pub inside : (z : ℤ) → lt_z z (pos 0) ≡ false → lt_z (pos 255) z ≡ false → 0 ≡ outside z
+inside : (z : ℤ) → lt_z z (pos 0) ≡ false → lt_z (pos 255) z ≡ false → 0 ≡ outside z
 unfolding outside
 inside (pos n) e h = rw h
 inside (negsuc n) e h = let q : ◌≡◌ {A = ℕ} 0 1 = cc in absurd (never q)
+
+-- the second test decides, where the first fails
+pub by-tests : (z : ℤ) → lt_z z (pos 0) ≡ false → bool_byte (lt_z (pos 255) z) ≡ outside z
+by-tests z e = by (lt_z (pos 255) z) refl
+  where
+    by : (b : Bool) → lt_z (pos 255) z ≡ b → bool_byte b ≡ outside z
+    by true h = above z h
+    by false h = inside z e h
 
 -- ---- at most once
 pub outside-≤ : (z : ℤ) → outside z ≤ 1

@@ -18,13 +18,13 @@ stored i0 i1 i2 i3 x0 x1 x2 x3 l = set (set (set (set l i0 x0) i1 x1) i2 x2) i3 
 unfoldable pub column_turn : ℕ → List ℤ → ℕ → List ℤ → List ℤ
 column_turn w s j t =
     let f = line_of (entry s j) (entry s (j + w)) (entry s (j + w + w)) (entry s (j + w + w + w)) in
-    stored j (j + w) (j + w + w) (j + w + w + w) f.x0 f.x1 f.x2 f.x3 t
+    stored j (j + w) (j + w + w) (j + w + w + w) (entry f 0) (entry f 1) (entry f 2) (entry f 3) t
 
 -- the four numbers from 4 q on
 unfoldable pub row_turn : List ℤ → ℕ → List ℤ → List ℤ
 row_turn t q o =
     let f = row_of (entry t (4 * q)) (entry t (4 * q + 1)) (entry t (4 * q + 2)) (entry t (4 * q + 3)) in
-    stored (4 * q) (4 * q + 1) (4 * q + 2) (4 * q + 3) f.y0 f.y1 f.y2 f.y3 o
+    stored (4 * q) (4 * q + 1) (4 * q + 2) (4 * q + 3) (entry f 0) (entry f 1) (entry f 2) (entry f 3) o
 
 -- n numbers of l from `from` on, put into s from `to` on
 unfoldable pub widened : ℕ → ℕ → ℕ → List ℤ → List ℤ → List ℤ

@@ -1,9 +1,7 @@
--- The two sums over the odd numbers of a line, and the four results of a pass as a struct.
-use Rattle.std.specs.Prelude.{ℤ, ◌+ℤ◌, ◌-ℤ◌}
+-- The two sums over the odd numbers of a line, and the four results of a pass as a list.
+use Rattle.std.specs.Prelude.{List, [], ◌∷◌, map, ℤ, ◌+ℤ◌, ◌-ℤ◌}
 use Rattle.whole.specs.Whole.{wrap}
 use Rattle.rfc6386.specs.Dct.{by_sin, by_cos, pass, wrapped, rounded}
-use Rattle.dct_line.specs.declared.Four.{Four}
-use Rattle.dct_line.specs.declared.Short.{Short}
 
 unfoldable pub odd_difference : ℤ → ℤ → ℤ
 odd_difference i4 i12 = wrap (by_sin i4 -ℤ by_cos i12)
@@ -12,17 +10,10 @@ unfoldable pub odd_sum : ℤ → ℤ → ℤ
 odd_sum i4 i12 = wrap (by_cos i4 +ℤ by_sin i12)
 
 -- the four results of a pass
-unfoldable pub line_of : ℤ → ℤ → ℤ → ℤ → Four
+unfoldable pub line_of : ℤ → ℤ → ℤ → ℤ → List ℤ
 line_of i0 i4 i8 i12 =
-    record {
-      x0 = pass wrapped 0 i0 i4 i8 i12;
-      x1 = pass wrapped 1 i0 i4 i8 i12;
-      x2 = pass wrapped 2 i0 i4 i8 i12;
-      x3 = pass wrapped 3 i0 i4 i8 i12;
-    }
+    pass wrapped 0 i0 i4 i8 i12 ∷ pass wrapped 1 i0 i4 i8 i12 ∷ pass wrapped 2 i0 i4 i8 i12 ∷ pass wrapped 3 i0 i4 i8 i12 ∷ []
 
 -- the same, each with the closing rounding
-unfoldable pub row_of : ℤ → ℤ → ℤ → ℤ → Short
-row_of i0 i1 i2 i3 =
-    let f = line_of i0 i1 i2 i3 in
-    record { y0 = rounded f.x0; y1 = rounded f.x1; y2 = rounded f.x2; y3 = rounded f.x3 }
+unfoldable pub row_of : ℤ → ℤ → ℤ → ℤ → List ℤ
+row_of i0 i1 i2 i3 = map rounded (line_of i0 i1 i2 i3)

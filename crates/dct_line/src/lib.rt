@@ -26,6 +26,7 @@ fn by_cos(x: i32) -> i32
     )
 }
 
+// Kept: the RFC's two formulas, which differ in more than a name: no plainer as one.
 // The RFC's c1 and d1: what the two odd numbers of a line give.
 fn odd_difference(i4: i32, i12: i32) -> i32
     ensures { result ≡ odd_difference i4 i12 }
@@ -39,29 +40,20 @@ fn odd_sum(i4: i32, i12: i32) -> i32
     whole::wrapping_add(by_cos(i4), by_sin(i12))
 }
 
-// Four numbers of a column or a row.
-#[derive(Clone, Copy)]
-pub struct Four {
-    pub x0: i32,
-    pub x1: i32,
-    pub x2: i32,
-    pub x3: i32,
-}
-
 // One pass on four numbers of a column, or of a row. RFC 6386, 14.4.
-pub fn line(i0: i32, i4: i32, i8: i32, i12: i32) -> Four
+pub fn line(i0: i32, i4: i32, i8: i32, i12: i32) -> [i32; 4]
     ensures { result ≡ line_of i0 i4 i8 i12 }
 {
     let a = whole::wrapping_add(i0, i8);
     let b = whole::wrapping_sub(i0, i8);
     let c = odd_difference(i4, i12);
     let d = odd_sum(i4, i12);
-    Four {
-        x0: whole::wrapping_add(a, d),
-        x1: whole::wrapping_add(b, c),
-        x2: whole::wrapping_sub(b, c),
-        x3: whole::wrapping_sub(a, d),
-    }
+    [
+        whole::wrapping_add(a, d),
+        whole::wrapping_add(b, c),
+        whole::wrapping_sub(b, c),
+        whole::wrapping_sub(a, d),
+    ]
 }
 
 // The closing rounding: an eighth, in 16 bits.
@@ -71,24 +63,10 @@ fn rounded(x: i32) -> i16
     whole::narrow(whole::wrapping_add(x, 4) >> 3)
 }
 
-// Four residues.
-#[derive(Clone, Copy)]
-pub struct Short {
-    pub y0: i16,
-    pub y1: i16,
-    pub y2: i16,
-    pub y3: i16,
-}
-
 // A row of a block, after the columns: one pass, and each result rounded.
-pub fn row(i0: i32, i1: i32, i2: i32, i3: i32) -> Short
+pub fn row(i0: i32, i1: i32, i2: i32, i3: i32) -> [i16; 4]
     ensures { result ≡ row_of i0 i1 i2 i3 }
 {
-    let f = line(i0, i1, i2, i3);
-    Short {
-        y0: rounded(f.x0),
-        y1: rounded(f.x1),
-        y2: rounded(f.x2),
-        y3: rounded(f.x3),
-    }
+    let [x0, x1, x2, x3] = line(i0, i1, i2, i3);
+    [rounded(x0), rounded(x1), rounded(x2), rounded(x3)]
 }

@@ -17,7 +17,7 @@ use Rattle.whole.proofs.Held.{R16}
 use Rattle.quantiser.proofs.Read.{product-read}
 use Rattle.rfc6386.specs.Quantiser.{dequant}
 use Rattle.rfc6386.specs.MbFactors.{of_block, blocks_dequantised}
-use Rattle.mb_factors.specs.declared.MbDequantFactors.{MbDequantFactors}
+use Rattle.mb_factors.specs.Factors.{FactorsAnswer}
 use Rattle.dequant.specs.Answers.{dc_of, ac_of, mb_dequantised}
 use Rattle.dequant.specs.Turns.{coefficient, block_scaled, blocks_scaled}
 
@@ -61,7 +61,7 @@ module _ (y2 y1 uv : ℤ) (k : ℕ) where
   unfolding of_block
   of-uv = rw (ne_eqb (17 + k) 0 (λ e. omega arith), le-ltb (17 + k) 17 (omega arith))
 
-module _ (f : MbDequantFactors) where
+module _ (f : FactorsAnswer) where
   -- block k by its own factors
   abbrev own : ℕ → List ℤ → List ℤ
   own k = block_scaled (dc_of f k) (ac_of f k) k

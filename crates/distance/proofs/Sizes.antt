@@ -3,13 +3,14 @@ use Prim.Native.Nat.{ℕ, zero, suc, ◌+◌, ◌-◌, ◌*◌, ◌/◌, ◌%◌
 use mathlib.Core.Bool.{Bool, true, false}
 use mathlib.Core.List.{List}
 use mathlib.Core.Logic.{⊎_elim}
-use mathlib.Core.Path.{◌≡◌, refl, ap}
+use mathlib.Core.Path.{◌≡◌, refl, sym, ap}
 use native.Mathlib.Nat.{mul-le-mul, eq-or-lt_of_le, le_of_suc-le-suc}
-use native.Mathlib.Numerals.{add-one}
 use native.Mathlib.Omega.{arith}
-use borrow.Author.Tests.{lt-ltb, le-leb, le-ltb, leb-true, eq-eqb, ne_eqb, eqb-true, ltb-false}
+use borrow.Author.Tests.{lt-ltb, le-ltb, leb-true, eqb-true, ltb-false}
 use lib.Dec.{eqb, leb, ltb}
 use lib.ListN.{length, get_or}
+use Rattle.std.proofs.lemmas.Grind.{get_or_default_zero}
+use Rattle.std.specs.Prelude.{IsTrue, All, ◌↔◌, ◌&&◌}
 use Rattle.lists.specs.Lists.{pick, both, total}
 use Rattle.lists.proofs.Tests.{left-holds, right-holds}
 use Rattle.macroblock.specs.Reply.{done, wrong_length, outside_picture}
@@ -27,28 +28,30 @@ unfolding side_ok
 side-says s e =
     record { low = leb-true 1 s (left-holds (leb 1 s) (leb s 1024) e); high = leb-true s 1024 (right-holds (leb 1 s) (leb s 1024) e) }
 
-pub side-low : (ok : Bool) (s : ℕ) → ok ≡ true → s < 1 → false ≡ both ok (side_ok s)
-unfolding side_ok
-side-low ok s e h = let z : s ≡ 0 = omega arith in rw (e, z)
-
-pub side-high : (ok : Bool) (s : ℕ) → ok ≡ true → 1 ≤ s → leb s 1024 ≡ both ok (side_ok s)
-unfolding side_ok
-side-high ok s e h = rw (e, le-leb 1 s h)
-
-pub sides-none : (sizes : List ℕ) → true ≡ sides_ok sizes 0
+every : (sizes : List ℕ) (n : ℕ) → ((k : ℕ) → k < n → side_ok (get_or sizes k 0) ≡ true) → sides_ok sizes n ≡ true
 unfolding sides_ok
-sides-none sizes = refl
+every sizes zero h = refl
+every sizes (suc n) h = rw (every sizes n (λ k l. h k (omega arith)), h n (omega arith))
 
-pub sides-turn : (sizes : List ℕ) (i : ℕ) (ok r : Bool) → ok ≡ sides_ok sizes i → r ≡ both ok (side_ok (get_or sizes i 0)) → r ≡ sides_ok sizes (i + 1)
+each : (sizes : List ℕ) (n : ℕ) → sides_ok sizes n ≡ true → (k : ℕ) → k < n → side_ok (get_or sizes k 0) ≡ true
 unfolding sides_ok
-sides-turn sizes i ok r e q = rw (add-one) (rw (e) at q)
+each sizes zero e k h = absurd (omega (arith, h))
+each sizes (suc n) e k h =
+    ⊎_elim (λ q. rw q (right-holds (sides_ok sizes n) (side_ok (get_or sizes n 0)) e))
+    (λ l. each sizes n (left-holds (sides_ok sizes n) (side_ok (get_or sizes n 0)) e) k l) (eq-or-lt_of_le (le_of_suc-le-suc h))
+
+two_tests : (a b : Bool) → (a ≡ true → b ≡ true) → (b ≡ true → a ≡ true) → a ≡ b
+two_tests true b f g = sym (f refl)
+two_tests false true f g = g refl
+two_tests false false f g = refl
+
+pub sides-all : (ok : Bool) (sizes : List ℕ) → (IsTrue ok ↔ All (λ s. IsTrue (side_ok s)) sizes) → ok ≡ sides_ok sizes (length sizes)
+sides-all ok sizes e =
+    two_tests ok (sides_ok sizes (length sizes)) (λ h. every sizes (length sizes) (λ k l. e.0 h k 0 l))
+    (λ h. e.1 (λ k d l. rw (get_or_default_zero sizes k d l) (each sizes (length sizes) h k l)))
 
 pub sides-say : (sizes : List ℕ) (n : ℕ) → sides_ok sizes n ≡ true → (i : ℕ) → i < n → Side (get_or sizes i 0)
-unfolding sides_ok
-sides-say sizes zero e i h = absurd (omega (arith, h))
-sides-say sizes (suc n) e i h =
-    ⊎_elim (λ q. rw q (side-says (get_or sizes n 0) (right-holds (sides_ok sizes n) (side_ok (get_or sizes n 0)) e)))
-    (λ l. sides-say sizes n (left-holds (sides_ok sizes n) (side_ok (get_or sizes n 0)) e) i l) (eq-or-lt_of_le (le_of_suc-le-suc h))
+sides-say sizes n e i h = side-says (get_or sizes i 0) (each sizes n e i h)
 
 -- ---- pixels
 module _ (sizes : List ℕ) (e : sides_ok sizes (length sizes) ≡ true) where
@@ -111,22 +114,15 @@ module _ (sizes : List ℕ) (drawn measured reports : ℕ) where
         reports-fit = eqb-true reports _ (right-holds (eqb measured end) last e₂);
       }
 
-  pub not-even : (length sizes % 2 ≡ 0 → ⊥) → false ≡ lengths_ok sizes drawn measured reports
-  unfolding lengths_ok
-  not-even h = rw (ne_eqb (length sizes % 2) 0 h)
+  all-four : (a b c d : Bool) → (((a && b) && c) && d) ≡ both a (both b (both c d))
+  all-four true true true d = refl
+  all-four true true false d = refl
+  all-four true false c d = refl
+  all-four false b c d = refl
 
-  pub not-drawn : length sizes % 2 ≡ 0 → (drawn ≡ end → ⊥) → false ≡ lengths_ok sizes drawn measured reports
+  pub by-lengths : (((eqb (length sizes % 2) 0 && eqb drawn end) && eqb measured end) && eqb reports (3 * (length sizes / 2))) ≡ lengths_ok sizes drawn measured reports
   unfolding lengths_ok
-  not-drawn e h = rw (eq-eqb (length sizes % 2) 0 e, ne_eqb drawn end h)
-
-  pub not-measured : length sizes % 2 ≡ 0 → drawn ≡ end → (measured ≡ end → ⊥) → false ≡ lengths_ok sizes drawn measured reports
-  unfolding lengths_ok
-  not-measured e d h = rw (eq-eqb (length sizes % 2) 0 e, eq-eqb drawn end d, ne_eqb measured end h)
-
-  pub by-reports : length sizes % 2 ≡ 0 → drawn ≡ end → measured ≡ end
-      → eqb reports (3 * (length sizes / 2)) ≡ lengths_ok sizes drawn measured reports
-  unfolding lengths_ok
-  by-reports e d m = rw (eq-eqb (length sizes % 2) 0 e, eq-eqb drawn end d, eq-eqb measured end m)
+  by-lengths = all-four (eqb (length sizes % 2) 0) (eqb drawn end) (eqb measured end) (eqb reports (3 * (length sizes / 2)))
 
 -- ---- the refusals in their order
 module _ (sizes : List ℕ) (drawn measured reports : ℕ) where

@@ -8,43 +8,31 @@
 //      totals     s l e                     the sum, the largest, the sum
 #![tactic(auto)]
 
-ghost use Rattle.std.specs.Prelude.{◌≡◌, true, ℕ, ◌+◌, ◌-◌, ◌*◌, ◌/◌, ◌<◌, ◌≤◌, max, length, get_or};
-ghost use Rattle.lists.specs.Lists.{both, ◌beside◌};
-ghost use Rattle.plane_distance.specs.Apart.{distance_from, no_distance, together};
+ghost use Rattle.std.specs.Prelude.{◌≡◌, true, ℕ, ◌+◌, ◌-◌, ◌*◌, ◌/◌, ◌≤◌, ◌<◌, length};
+ghost use Rattle.lists.specs.Lists.{◌beside◌};
+ghost use Rattle.macroblock.specs.Reply.{reply_of};
+ghost use Rattle.plane_distance.specs.Apart.{distance_from};
 ghost use Rattle.distance.specs.Stills.{pixels_of, start_of, report_of, put_report, reported, summed};
 ghost use Rattle.distance.specs.Answer.{side_ok, sides_ok, lengths_ok, refusal, Accepted, Plane, distance_answer};
 
-use macroblock::reply;
+use macroblock::Refusal;
 use plane_distance::Distance;
 
-// More stills than 4,096.
-pub const TOO_MANY: u32 = 12;
-
-fn side_ok(ok: bool, side: u32) -> bool
-    ensures { result ≡ both ok (side_ok side) }
+// From 1 to 1,024.
+fn side_ok(side: u32) -> bool
+    ensures { result ≡ side_ok side }
 {
-    if !ok {
-        return false;
-    }
-    if side < 1 {
-        return false;
-    }
-    side <= 1024
+    1 <= side && side <= 1024
 }
 
-// Whether every side is from 1 to 1,024.
 fn sides_ok(sizes: &[u32]) -> bool
     ensures { result ≡ sides_ok sizes.now (length sizes.now) }
 {
-    let mut ok = true;
-    let n = sizes.len();
-    for i in 0..n {
-        ok = side_ok(ok, sizes[i]);
-    }
-    ok
+    sizes.iter().all(|&side| side_ok(side))
 }
 
 // The pixels of still k.
+// Kept: that every side is known stands in three contracts; a type of known sizes holds a slice, and its clauses would read `self.entry`: no plainer.
 fn pixels(sizes: &[u32], k: usize) -> usize
     requires { (2 * k + 1 < length sizes.now) × (sides_ok sizes.now (length sizes.now) ≡ true) }
     ensures { result ≡ pixels_of sizes.now k }
@@ -59,10 +47,10 @@ fn all_pixels(sizes: &[u32]) -> usize
     requires { (length sizes.now ≤ 8192) × (sides_ok sizes.now (length sizes.now) ≡ true) }
     ensures { result ≡ start_of sizes.now (length sizes.now / 2) }
 {
-    let n = sizes.len() / 2;
+    // Kept: as a range's `map` and `sum` the goal sum-requires-clause-fits did not close.
     let mut at = 0;
-    for k in 0..n {
-        at = at + pixels(sizes, k);
+    for k in 0..sizes.len() / 2 {
+        at += pixels(sizes, k);
     }
     at
 }
@@ -71,79 +59,23 @@ fn lengths_ok(sizes: &[u32], drawn: usize, measured: usize, reports: usize) -> b
     requires { (length sizes.now ≤ 8192) × (sides_ok sizes.now (length sizes.now) ≡ true) }
     ensures { result ≡ lengths_ok sizes.now drawn measured reports }
 {
-    if sizes.len() % 2 != 0 {
-        return false;
-    }
     let n = all_pixels(sizes);
-    if drawn != n {
-        return false;
-    }
-    if measured != n {
-        return false;
-    }
-    reports == 3 * (sizes.len() / 2)
+    (sizes.len() % 2, drawn, measured, reports) == (0, n, n, 3 * (sizes.len() / 2))
 }
 
-fn refusal(sizes: &[u32], drawn: usize, measured: usize, reports: usize) -> u32
-    ensures { result ≡ refusal sizes.now drawn measured reports }
+fn test(sizes: &[u32], drawn: usize, measured: usize, reports: usize) -> Result<(), Refusal>
+    ensures { reply_of result ≡ refusal sizes.now drawn measured reports }
 {
     if sizes.len() > 8192 {
-        return TOO_MANY;
+        return Err(Refusal::TooManyStills);
     }
     if !sides_ok(sizes) {
-        return reply::OUTSIDE_PICTURE;
+        return Err(Refusal::OutsidePicture);
     }
     if !lengths_ok(sizes, drawn, measured, reports) {
-        return reply::WRONG_LENGTH;
+        return Err(Refusal::WrongLength);
     }
-    reply::DONE
-}
-
-fn nothing() -> Distance
-    ensures { result ≡ no_distance }
-{
-    Distance {
-        squares: 0,
-        largest: 0,
-        equal: 0,
-    }
-}
-
-fn larger_of(x: u64, y: u64) -> u64
-    ensures { result ≡ max x y }
-{
-    if x < y { y } else { x }
-}
-
-fn together(x: Distance, y: Distance) -> Distance
-    requires { (x.squares + y.squares < 18446744073709551616) × (x.equal + y.equal < 18446744073709551616) }
-    ensures { result ≡ together x y }
-{
-    Distance {
-        squares: x.squares + y.squares,
-        largest: larger_of(x.largest, y.largest),
-        equal: x.equal + y.equal,
-    }
-}
-
-// Three zeros.
-fn clear(totals: &mut [u64])
-    requires { length totals.old ≡ 3 }
-    ensures { totals.new ≡ report_of no_distance }
-{
-    let places = totals.len();
-    for i in 0..places {
-        totals[i] = 0;
-    }
-}
-
-fn put(to: &mut [u64], d: Distance)
-    requires { length to.old ≡ 3 }
-    ensures { to.new ≡ report_of d }
-{
-    to[0] = d.squares;
-    to[1] = d.largest;
-    to[2] = d.equal;
+    Ok(())
 }
 
 // The still whose planes stand from `at` to `end` in both slices.
@@ -154,11 +86,17 @@ fn still(drawn: &[u8], measured: &[u8], at: usize, end: usize) -> Distance
     plane_distance::plane_distance(&drawn[at..end], &measured[at..end])
 }
 
+fn report(d: Distance) -> [u64; 3]
+    ensures { result ≡ report_of d }
+{
+    [d.squares, d.largest, d.equal]
+}
+
 fn put_report(reports: &mut [u64], k: usize, d: Distance)
     requires { 3 * k + 3 ≤ length reports.old }
     ensures { reports.new ≡ put_report k d reports.old }
 {
-    put(&mut reports[3 * k..3 * k + 3], d);
+    reports[3 * k..3 * k + 3].copy_from_slice(&report(d));
 }
 
 // The report of each still, and all of them together.
@@ -167,14 +105,14 @@ fn report_each(sizes: &[u32], drawn: &[u8], measured: &[u8], reports: &mut [u64]
     ensures { (result ≡ summed sizes.now drawn.now measured.now (length sizes.now / 2))
         × (reports.new ≡ reported sizes.now drawn.now measured.now (length sizes.now / 2)) }
 {
-    let n = sizes.len() / 2;
-    let mut sum = nothing();
+    let mut sum = Distance::none();
     let mut at = 0;
-    for k in 0..n {
+    // Kept: no plainer, since still k has two sizes, two planes and a report, each at a place of its own.
+    for k in 0..sizes.len() / 2 {
         let end = at + pixels(sizes, k);
         let d = still(drawn, measured, at, end);
         put_report(reports, k, d);
-        sum = together(sum, d);
+        sum = sum.together(d);
         at = end;
     }
     sum
@@ -183,26 +121,22 @@ fn report_each(sizes: &[u32], drawn: &[u8], measured: &[u8], reports: &mut [u64]
 // The reports of a list of stills, and the same over the list. Refused: totals of another length than 3 (1, nothing written);
 // more than 4,096 stills (12); a side outside 1 to 1,024 (7); an odd number of sides, planes of other lengths than the
 // stills', reports of another length than three numbers a still (1). Reports then stay as found, and the totals are zeros.
-#[tactic(auto, using(crate::proofs::Answers::refused))]
 pub fn distance(
     sizes: &[u32],
     drawn: &[u8],
     measured: &[u8],
     reports: &mut [u64],
     totals: &mut [u64],
-) -> u32
-    ensures { (result beside reports.new beside totals.new)
+) -> Result<(), Refusal>
+    ensures { (reply_of result beside reports.new beside totals.new)
         ≡ distance_answer sizes.now drawn.now measured.now reports.old totals.old }
 {
     if totals.len() != 3 {
-        return reply::WRONG_LENGTH;
+        return Err(Refusal::WrongLength);
     }
-    let refused = refusal(sizes, drawn.len(), measured.len(), reports.len());
-    if refused != reply::DONE {
-        clear(totals);
-        return refused;
-    }
+    totals.fill(0);
+    test(sizes, drawn.len(), measured.len(), reports.len())?;
     let sum = report_each(sizes, drawn, measured, reports);
-    put(totals, sum);
-    refused
+    totals.copy_from_slice(&report(sum));
+    Ok(())
 }

@@ -21,18 +21,17 @@ use Rattle.rfc6386.specs.Edges.{is_b}
 use Rattle.rfc6386.specs.Walk.{added_blocks, plane, y_prediction, uv_prediction, y_whole, y_parts, uv_plane, luma_of}
 use Rattle.rfc6386.proofs.Edges.{y-length, uv-length}
 use Rattle.clipping.proofs.Bounds.{y-whole-≤, uv-≤, y-parts-≤}
-use Rattle.reconstruct.specs.declared.ReconstructedMb.{ReconstructedMb}
-use Rattle.reconstruct.specs.Answers.{refusal, whole_of, parts_of, non_b, walk_b}
+use Rattle.reconstruct.specs.Answers.{MbAnswer, refusal, whole_of, parts_of, non_b, walk_b}
 use Rattle.drawing.specs.Drawn.{planes_of, modes_known, modes_of, sub_modes_of, subs_known, drawn_b, drawn_in, drawn_with, drawn, drawn_bytes}
 
-pub record Shape (r : ReconstructedMb) : Type 0 where
+pub record Shape (r : MbAnswer) : Type 0 where
   pub luma : length r.y ≡ 256
   pub first : length r.u ≡ 64
   pub second : length r.v ≡ 64
   pub number : r.reply ≤ 8
   pub counted : r.clipped ≤ 384
 
-pub planes-length : {r : ReconstructedMb} → Shape r → length (planes_of r) ≡ 384
+pub planes-length : {r : MbAnswer} → Shape r → length (planes_of r) ≡ 384
 unfolding planes_of
 planes-length {r} s =
     length-append r.y (r.u ++ r.v) ∙ (let e = length-append r.u r.v in omega (arith, e, s.luma, s.first, s.second))
@@ -90,7 +89,7 @@ refusal-shape k h =
       counted = lit≤ tt;
     }
 
-pick-shape : (b : Bool) {x y : ReconstructedMb} → Shape x → Shape y → Shape (pick b x y)
+pick-shape : (b : Bool) {x y : MbAnswer} → Shape x → Shape y → Shape (pick b x y)
 pick-shape true p q = p
 pick-shape false p q = q
 

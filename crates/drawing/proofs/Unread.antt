@@ -18,8 +18,7 @@ use Rattle.macroblock.specs.declared.neighbors.MbNeighbors.{MbNeighbors}
 use Rattle.rfc6386.specs.Edges.{is_b}
 use Rattle.rfc6386.proofs.Absent.{SameEdges}
 use Rattle.record_bytes.specs.Bytes.{marks_known, record_of}
-use Rattle.reconstruct.specs.Answers.{refusal, non_b, walk_b}
-use Rattle.reconstruct.specs.declared.ReconstructedMb.{ReconstructedMb}
+use Rattle.reconstruct.specs.Answers.{MbAnswer, refusal, non_b, walk_b}
 use Rattle.reconstruct.proofs.Unread.{non_b-absent, walk_b-absent}
 use Rattle.reconstruct.proofs.Uncounted.{
   Zero,
@@ -62,7 +61,7 @@ drawn-unmarked luma chroma skip subs others n c = refl
 
 -- ---- the count
 module _ (modes : MbModes) (subs : List ℕ) (there : Bool) (n : MbNeighbors) (c : List ℤ) where
-  abbrev in_b : ReconstructedMb
+  abbrev in_b : MbAnswer
   in_b = pick (subs_known subs there) (walk_b (sub_modes_of subs) there modes n (drop 16 c)) (refusal unknown_byte)
 
   in-quiet : Quiet (drawn_in modes subs there n c)
@@ -82,10 +81,10 @@ module _ (modes : MbModes) (subs : List ℕ) (there : Bool) (n : MbNeighbors) (c
       (non_b-skipped-counts-nothing modes n c e)
 
 module _ (luma chroma skip : ℕ) (subs : List ℕ) (there : Bool) (n : MbNeighbors) (c : List ℤ) where
-  abbrev made : ReconstructedMb
+  abbrev made : MbAnswer
   made = drawn_in (modes_of luma chroma skip) subs there n c
 
-  abbrev known : ReconstructedMb
+  abbrev known : MbAnswer
   known = pick (modes_known luma chroma skip) made (refusal unknown_byte)
 
   pub drawn-refused-counts-nothing : Quiet (drawn luma chroma skip subs there n c)

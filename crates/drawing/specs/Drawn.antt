@@ -10,11 +10,10 @@ use Rattle.macroblock.specs.declared.neighbors.MbNeighbors.{MbNeighbors}
 use Rattle.macroblock.specs.Says.{y_reply, y_mode, uv_reply, uv_mode, b_mode}
 use Rattle.record_bytes.specs.Bytes.{marks_known, record_of}
 use Rattle.rfc6386.specs.Edges.{is_b}
-use Rattle.reconstruct.specs.declared.ReconstructedMb.{ReconstructedMb}
-use Rattle.reconstruct.specs.Answers.{refusal, non_b, walk_b}
+use Rattle.reconstruct.specs.Answers.{MbAnswer, refusal, non_b, walk_b}
 
 -- the planes one after another: Y, U, V
-unfoldable pub planes_of : ReconstructedMb → List ℕ
+unfoldable pub planes_of : MbAnswer → List ℕ
 planes_of r = r.y ++ (r.u ++ r.v)
 
 -- the three mode bytes
@@ -33,26 +32,26 @@ abbrev pub subs_known : List ℕ → Bool → Bool
 subs_known subs there = pick there (within 9 16 subs) true
 
 -- luma mode B: the first 16 coefficients are skipped
-unfoldable pub drawn_b : MbModes → List ℕ → Bool → MbNeighbors → List ℤ → ReconstructedMb
+unfoldable pub drawn_b : MbModes → List ℕ → Bool → MbNeighbors → List ℤ → MbAnswer
 drawn_b modes subs there n coeffs =
     pick (subs_known subs there) (walk_b (sub_modes_of subs) there modes n (drop 16 coeffs)) (refusal unknown_byte)
 
 -- a macroblock of known modes
-unfoldable pub drawn_in : MbModes → List ℕ → Bool → MbNeighbors → List ℤ → ReconstructedMb
+unfoldable pub drawn_in : MbModes → List ℕ → Bool → MbNeighbors → List ℤ → MbAnswer
 drawn_in modes subs there n coeffs = pick (is_b modes.y) (drawn_b modes subs there n coeffs) (non_b modes n coeffs)
 
 -- the same, with its number of coefficients tested
-unfoldable pub drawn_with : MbModes → List ℕ → Bool → MbNeighbors → List ℤ → ReconstructedMb
+unfoldable pub drawn_with : MbModes → List ℕ → Bool → MbNeighbors → List ℤ → MbAnswer
 drawn_with modes subs there n coeffs = pick (eqb (length coeffs) 400) (drawn_in modes subs there n coeffs) (refusal wrong_length)
 
 -- the macroblock
-unfoldable pub drawn : ℕ → ℕ → ℕ → List ℕ → Bool → MbNeighbors → List ℤ → ReconstructedMb
+unfoldable pub drawn : ℕ → ℕ → ℕ → List ℕ → Bool → MbNeighbors → List ℤ → MbAnswer
 drawn luma chroma skip subs there n coeffs =
     pick (eqb (length coeffs) 400)
     (pick (modes_known luma chroma skip) (drawn_in (modes_of luma chroma skip) subs there n coeffs) (refusal unknown_byte))
     (refusal wrong_length)
 
 -- the macroblock whose neighbours are 81 record bytes
-unfoldable pub drawn_bytes : ℕ → ℕ → ℕ → List ℕ → Bool → List ℕ → List ℤ → ReconstructedMb
+unfoldable pub drawn_bytes : ℕ → ℕ → ℕ → List ℕ → Bool → List ℕ → List ℤ → MbAnswer
 drawn_bytes luma chroma skip subs there «record» coeffs =
     pick (marks_known «record») (drawn luma chroma skip subs there (record_of «record») coeffs) (refusal unknown_byte)

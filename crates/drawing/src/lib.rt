@@ -3,53 +3,38 @@
 #![tactic(auto)]
 
 ghost use Rattle.std.specs.Prelude.{◌≡◌, ◌≤◌, length};
-ghost use Rattle.drawing.specs.Drawn.{modes_known, modes_of, sub_modes_of, subs_known, drawn_b, drawn_in, drawn_with, drawn, drawn_bytes};
+ghost use Rattle.lists.specs.Lists.{pick, within};
+ghost use Rattle.reconstruct.specs.Answers.{told};
+ghost use Rattle.drawing.specs.Drawn.{modes_known, modes_of, sub_modes_of, drawn_b, drawn_in, drawn_with, drawn, drawn_bytes};
 
-use macroblock::{IntraBmode, MbModes, MbNeighbors, reply};
+use macroblock::{IntraBmode, IntraUvMode, IntraYMode, MbModes, MbNeighbors, Refusal};
 use reconstruct::ReconstructedMb;
 
-fn modes_known(luma: u8, chroma: u8, skip: u8) -> bool
-    ensures { result ≡ modes_known luma chroma skip }
+// What the three mode bytes say.
+fn modes_of(luma: u8, chroma: u8, skip: u8) -> Result<MbModes, Refusal>
+    ensures { result ≡ pick (modes_known luma chroma skip) (Ok (modes_of luma chroma skip)) (Err Refusal.UnknownByte) }
 {
-    if macroblock::y_reply(luma) != reply::DONE {
-        return false;
+    let y = IntraYMode::try_from(luma)?;
+    let uv = IntraUvMode::try_from(chroma)?;
+    if skip > 1 {
+        return Err(Refusal::UnknownByte);
     }
-    if macroblock::uv_reply(chroma) != reply::DONE {
-        return false;
-    }
-    skip <= 1
-}
-
-fn modes_of(luma: u8, chroma: u8, skip: u8) -> MbModes
-    ensures { result ≡ modes_of luma chroma skip }
-{
-    let y = macroblock::y_mode(luma);
-    let uv = macroblock::uv_mode(chroma);
-    MbModes {
+    Ok(MbModes {
         y,
         uv,
         skip: skip == 1,
-    }
+    })
 }
 
-fn sub_modes_of(bytes: [u8; 16]) -> [IntraBmode; 16]
-    ensures { result ≡ sub_modes_of bytes }
+// What the sixteen sub-block bytes say.
+fn sub_modes_of(bytes: [u8; 16]) -> Result<[IntraBmode; 16], Refusal>
+    ensures { result ≡ pick (within 9 16 bytes) (Ok (sub_modes_of bytes)) (Err Refusal.UnknownByte) }
 {
-    let first = IntraBmode::Dc;
-    let mut modes = [first; 16];
-    for k in 0..16 {
-        modes[k] = macroblock::b_mode(bytes[k]);
+    let mut modes = [IntraBmode::Dc; 16];
+    for (k, byte) in bytes.iter().enumerate() {
+        modes[k] = IntraBmode::try_from(*byte)?;
     }
-    modes
-}
-
-fn sub_modes_known(bytes: [u8; 16], there: bool) -> bool
-    ensures { result ≡ subs_known bytes there }
-{
-    if there {
-        return macroblock::b_modes_known(bytes);
-    }
-    true
+    Ok(modes)
 }
 
 fn draw_b(
@@ -58,15 +43,15 @@ fn draw_b(
     sub_modes_there: bool,
     neighbors: MbNeighbors,
     coeffs: &[i16],
-) -> ReconstructedMb
+) -> Result<ReconstructedMb, Refusal>
     requires { 16 ≤ length coeffs.now }
-    ensures { result ≡ drawn_b modes sub_modes sub_modes_there neighbors coeffs.now }
+    ensures { told result ≡ drawn_b modes sub_modes sub_modes_there neighbors coeffs.now }
 {
-    if !sub_modes_known(sub_modes, sub_modes_there) {
-        return reconstruct::refused(reply::UNKNOWN_BYTE);
+    if !sub_modes_there {
+        return Err(Refusal::NoSubModes);
     }
-    let subs = sub_modes_of(sub_modes);
-    reconstruct::decode_keyframe_mb_bpred(modes, subs, sub_modes_there, neighbors, &coeffs[16..])
+    let sub_modes = sub_modes_of(sub_modes)?;
+    reconstruct::decode_keyframe_mb_bpred(modes, sub_modes, true, neighbors, &coeffs[16..])
 }
 
 fn draw_in(
@@ -75,17 +60,17 @@ fn draw_in(
     sub_modes_there: bool,
     neighbors: MbNeighbors,
     coeffs: &[i16],
-) -> ReconstructedMb
+) -> Result<ReconstructedMb, Refusal>
     requires { 16 ≤ length coeffs.now }
-    ensures { result ≡ drawn_in modes sub_modes sub_modes_there neighbors coeffs.now }
+    ensures { told result ≡ drawn_in modes sub_modes sub_modes_there neighbors coeffs.now }
 {
-    let y = modes.y;
-    if reconstruct::is_b(y) {
+    if reconstruct::is_b(modes.y) {
         return draw_b(modes, sub_modes, sub_modes_there, neighbors, coeffs);
     }
     reconstruct::decode_keyframe_mb_non_bpred(modes, neighbors, coeffs)
 }
 
+// Kept: the sub-block bytes beside their mark, here and below, as the walker and the theorem drawn-unmarked have them.
 // The planes of a macroblock whose modes are known. Refused, in this order: another number of coefficients (reply 1), in luma
 // mode B a sub-block byte that says nothing (8), luma mode B without sub-block modes (4).
 pub fn draw_with(
@@ -94,11 +79,11 @@ pub fn draw_with(
     sub_modes_there: bool,
     neighbors: MbNeighbors,
     coeffs: &[i16],
-) -> ReconstructedMb
-    ensures { result ≡ drawn_with modes sub_modes sub_modes_there neighbors coeffs.now }
+) -> Result<ReconstructedMb, Refusal>
+    ensures { told result ≡ drawn_with modes sub_modes sub_modes_there neighbors coeffs.now }
 {
     if coeffs.len() != 400 {
-        return reconstruct::refused(reply::WRONG_LENGTH);
+        return Err(Refusal::WrongLength);
     }
     draw_in(modes, sub_modes, sub_modes_there, neighbors, coeffs)
 }
@@ -113,16 +98,13 @@ pub fn draw(
     sub_modes_there: bool,
     neighbors: MbNeighbors,
     coeffs: &[i16],
-) -> ReconstructedMb
-    ensures { result ≡ drawn luma chroma skip sub_modes sub_modes_there neighbors coeffs.now }
+) -> Result<ReconstructedMb, Refusal>
+    ensures { told result ≡ drawn luma chroma skip sub_modes sub_modes_there neighbors coeffs.now }
 {
     if coeffs.len() != 400 {
-        return reconstruct::refused(reply::WRONG_LENGTH);
+        return Err(Refusal::WrongLength);
     }
-    if !modes_known(luma, chroma, skip) {
-        return reconstruct::refused(reply::UNKNOWN_BYTE);
-    }
-    let modes = modes_of(luma, chroma, skip);
+    let modes = modes_of(luma, chroma, skip)?;
     draw_in(modes, sub_modes, sub_modes_there, neighbors, coeffs)
 }
 
@@ -135,11 +117,11 @@ pub fn draw_bytes(
     sub_modes_there: bool,
     record: [u8; 81],
     coeffs: &[i16],
-) -> ReconstructedMb
-    ensures { result ≡ drawn_bytes luma chroma skip sub_modes sub_modes_there «record» coeffs.now }
+) -> Result<ReconstructedMb, Refusal>
+    ensures { told result ≡ drawn_bytes luma chroma skip sub_modes sub_modes_there «record» coeffs.now }
 {
     if !record_bytes::marks_known(record) {
-        return reconstruct::refused(reply::UNKNOWN_BYTE);
+        return Err(Refusal::UnknownByte);
     }
     let neighbors = record_bytes::neighbors_of(record);
     draw(

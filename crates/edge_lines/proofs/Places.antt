@@ -1,23 +1,30 @@
 -- Where a macroblock's edges lie. Assumes nothing.
 --     seat            what a seated macroblock has: its square, and room beyond its own edges
 --     left-fits ..    the windows of its edges
---     three           three inner edges, one after the other
+--     own-room ..     the same in either direction
+--     one             one inner edge
+--     outer-is ..     the kinds of a rule's edges
+--     luma-left ..    what is answered of a macroblock that does not lie in its plane, and of one that does
 use Prim.Native.Nat.{ℕ, ◌+◌, ◌-◌, ◌*◌, ◌<◌, ◌≤◌}
 use native.Mathlib.Nat.{mul-le-mul_right}
 use native.Mathlib.Omega.{arith}
-use mathlib.Core.Path.{◌≡◌}
-use mathlib.Core.Bool.{Bool, true}
+use mathlib.Core.Path.{◌≡◌, refl}
+use mathlib.Core.Bool.{Bool, true, false}
 use mathlib.Core.List.{List}
 use lib.Dec.{leb, ltb}
 use lib.ListN.{length}
 use borrow.Author.Tests.{ltb-true, leb-true}
-use Rattle.lists.specs.Lists.{turns, both}
+use Rattle.lists.specs.Lists.{turns, pick, both}
 use Rattle.lists.proofs.Tests.{left-holds, right-holds}
 use Rattle.macroblock.specs.declared.filter.Limits.{Limits}
 use Rattle.macroblock.specs.declared.filter.Kind.{Kind}
-use Rattle.rfc6386.specs.LoopFilter.{corner, edge, inner_turn}
+use Rattle.macroblock.specs.declared.filter.Kind.TheVariants.{Simple, Outer, Inner}
+use Rattle.macroblock.specs.declared.filter.Rule.{Rule}
+use Rattle.rfc6386.specs.LoopFilter.{corner, edge, inner_turn, outer_kind, inner_kind, side}
 use Rattle.edge_lines.specs.Lines.{Fits}
-use Rattle.edge_lines.specs.Sides.{Square, seated}
+use Rattle.edge_lines.specs.declared.direction.Direction.{Direction}
+use Rattle.edge_lines.specs.declared.direction.Direction.TheVariants.{Upright, Level}
+use Rattle.edge_lines.specs.Sides.{Square, Room, across, along, beyond, seated, upright_at, level_at, side_at, upright_pair, level_pair, side_pair}
 
 pub square-same : {b d : List ℕ} {n at stride : ℕ} → length d ≡ length b → Square b n at stride → Square d n at stride
 square-same e s = record { wide = s.wide; inside = λ k p. let h = s.inside k p in omega arith }
@@ -49,9 +56,9 @@ seat n size cols r c some e =
     let d = both-holds (ltb c cols) _ b.1 in
     let p : c < cols = ltb-true c cols d.0 in
     let fit : (r + 1) * n * (n * cols) ≤ size = leb-true _ _ d.1 in
-    let along : c * n + n ≤ n * cols = let h : (c + 1) * n ≤ cols * n = mul-le-mul_right n (omega arith) in omega arith in
+    let row : c * n + n ≤ n * cols = let h : (c + 1) * n ≤ cols * n = mul-le-mul_right n (omega arith) in omega arith in
     let ins : (k : ℕ) → k < n → corner n cols r c + k * (n * cols) + n ≤ size =
-    λ k q. let h = in_rows (r * n + k) (c * n) n ((r + 1) * n) (n * cols) (omega arith) along in omega arith in
+    λ k q. let h = in_rows (r * n + k) (c * n) n ((r + 1) * n) (n * cols) (omega arith) row in omega arith in
     let z = ins 0 some in
     record {
       narrow = leb-true cols 1024 a.0;
@@ -90,13 +97,76 @@ module _ (b : List ℕ) (n at stride : ℕ) (s : Square b n at stride) where
             omega arith;
       }
 
--- ---- inner edges one after the other
-module _ (kind : Kind) (l : Limits) (n at step next : ℕ) (b : List ℕ) where
-  pub three : (p q r : ℕ) → p ≡ at + 4 * (0 + 1) * step → q ≡ at + 4 * (1 + 1) * step → r ≡ at + 4 * (2 + 1) * step
-      → edge kind l n r step next (edge kind l n q step next (edge kind l n p step next b)) ≡ turns 3 (inner_turn kind l n at step next) b
-  unfolding turns
-  three p q r x y z = rw (x, y, z)
+  -- ---- in either direction
+  pub own-room : (d : Direction) → 4 * across d stride ≤ at → 4 ≤ n → Room d n at stride b
+  own-room Upright h f = record { low = h; wide = s.wide; window = left-fits h f }
+  own-room Level h f = record { low = h; wide = s.wide; window = top-fits h f }
 
+  pub inner-room : (d : Direction) (j : ℕ) → 4 * (j + 1) + 4 ≤ n → Room d n (at + 4 * (j + 1) * across d stride) stride b
+  inner-room Upright j h =
+      record {
+        low = omega arith;
+        wide = s.wide;
+        window = columns-fit (at + 4 * (j + 1) * 1 - 4 * 1) (4 * j) (omega arith) (omega arith);
+      }
+  inner-room Level j h =
+      record {
+        low = omega arith;
+        wide = s.wide;
+        window = rows_fit (at + 4 * (j + 1) * stride - 4 * stride) (4 * j) (omega arith) (omega arith);
+      }
+
+pub own-low : (d : Direction) (n size cols r c : ℕ) → 4 ≤ n → Seat n size cols r c → beyond d r c ≡ true
+    → 4 * across d (n * cols) ≤ corner n cols r c
+own-low Upright n size cols r c f s t = let h = s.left t in omega arith
+own-low Level n size cols r c f s t =
+    let h = s.top t in let k : 4 * (n * cols) ≤ n * (n * cols) = mul-le-mul_right (n * cols) f in omega arith
+
+-- ---- the kinds of a rule's edges
+pub outer-is : (t : Bool) → pick t Simple Outer ≡ outer_kind t
+outer-is true = refl
+outer-is false = refl
+
+pub inner-is : (t : Bool) → pick t Simple Inner ≡ inner_kind t
+inner-is true = refl
+inner-is false = refl
+
+-- ---- what is answered of a macroblock
+module _ (rule : Rule) (cols r c : ℕ) (inner : Bool) where
+  pub luma-left : (d : Direction) (b : List ℕ) → seated 16 (length b) cols r c ≡ false → b ≡ side_at d rule 16 cols r c inner b
+  unfolding upright_at level_at
+  luma-left Upright b e = rw e
+  luma-left Level b e = rw e
+
+  pub luma-filtered : (d : Direction) (b a : List ℕ) → seated 16 (length b) cols r c ≡ true
+      → a ≡ side rule 16 (corner 16 cols r c) (across d (16 * cols)) (along d (16 * cols)) (beyond d r c) inner b
+      → a ≡ side_at d rule 16 cols r c inner b
+  unfolding upright_at level_at
+  luma-filtered Upright b a e h = rw e h
+  luma-filtered Level b a e h = rw e h
+
+  module _ (u v : List ℕ) where
+    pub u-left : (d : Direction) → seated 8 (length u) cols r c ≡ false → ◌≡◌ {A = List ℕ × List ℕ} (u, v) (side_pair d rule cols r c inner u v)
+    unfolding upright_pair level_pair
+    u-left Upright e = rw e
+    u-left Level e = rw e
+
+    pub v-left : (d : Direction) → seated 8 (length u) cols r c ≡ true → seated 8 (length v) cols r c ≡ false
+        → ◌≡◌ {A = List ℕ × List ℕ} (u, v) (side_pair d rule cols r c inner u v)
+    unfolding upright_pair level_pair
+    v-left Upright e f = rw (e, f)
+    v-left Level e f = rw (e, f)
+
+    pub chroma-filtered : (d : Direction) (x y : List ℕ) → seated 8 (length u) cols r c ≡ true → seated 8 (length v) cols r c ≡ true
+        → x ≡ side rule 8 (corner 8 cols r c) (across d (8 * cols)) (along d (8 * cols)) (beyond d r c) inner u
+        → y ≡ side rule 8 (corner 8 cols r c) (across d (8 * cols)) (along d (8 * cols)) (beyond d r c) inner v
+        → ◌≡◌ {A = List ℕ × List ℕ} (x, y) (side_pair d rule cols r c inner u v)
+    unfolding upright_pair level_pair
+    chroma-filtered Upright x y e f g h = rw (e, f, g, h)
+    chroma-filtered Level x y e f g h = rw (e, f, g, h)
+
+-- ---- one inner edge
+module _ (kind : Kind) (l : Limits) (n at step next : ℕ) (b : List ℕ) where
   pub one : (p : ℕ) → p ≡ at + 4 * (0 + 1) * step → edge kind l n p step next b ≡ turns 1 (inner_turn kind l n at step next) b
   unfolding turns
   one p x = rw x

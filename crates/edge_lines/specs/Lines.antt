@@ -1,6 +1,14 @@
 -- Bytes moved between a plane and lines of sixteen.
 use Rattle.std.specs.Prelude.{ℕ, ◌+◌, ◌*◌, ◌/◌, ◌%◌, ◌<◌, ◌≤◌, ◌≡◌, List, length, get_or, set, replicate}
 use Rattle.lists.specs.Lists.{turns, table}
+use Rattle.macroblock.specs.declared.filter.Across.{Across}
+use Rattle.macroblock.specs.declared.filter.Limits.{Limits}
+use Rattle.macroblock.specs.declared.filter.Kind.{Kind}
+use Rattle.rfc6386.specs.LoopFilter.{filtered}
+
+-- what calls of a filter may answer is what the kind's filter makes of the pixels
+pub record Filters (kind : Kind) (answers : Limits → Across → Across → Type 0) : Type 0 where
+  pub is : (l : Limits) (x y : Across) → answers l x y → y ≡ filtered kind l x
 
 -- all eight pixels across an edge lie in the plane
 pub record Reaches (b : List ℕ) (i step : ℕ) : Type 0 where

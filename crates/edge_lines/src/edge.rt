@@ -1,10 +1,11 @@
-// An edge across lines of sixteen: a loop a kind, so that each is made of vectors.
+// An edge across lines of sixteen: one loop, of which each kind has its own, made of vectors.
 ghost use Rattle.std.specs.Prelude.{◌≡◌, ℕ, ◌+◌, ◌*◌, ◌≤◌, ◌<◌, length};
-ghost use Rattle.rfc6386.specs.LoopFilter.{taken, laid, crossed, edge};
-ghost use Rattle.edge_lines.specs.Lines.{Reaches};
+ghost use Rattle.rfc6386.specs.LoopFilter.{taken, laid, edge};
+ghost use Rattle.edge_lines.specs.Lines.{Reaches, Filters};
 
 use macroblock::filter::{Across, Kind, Limits};
 
+#[tactic(auto, unfolding(rfc6386::specs::LoopFilter::taken))]
 fn take(plane: &[u8], i: usize, step: usize) -> Across
     requires { Reaches plane.now i step }
     ensures { result ≡ taken step i plane.now }
@@ -21,6 +22,7 @@ fn take(plane: &[u8], i: usize, step: usize) -> Across
     }
 }
 
+#[tactic(auto, unfolding(rfc6386::specs::LoopFilter::laid))]
 fn lay(plane: &mut [u8], i: usize, step: usize, x: Across)
     requires { Reaches plane.old i step }
     ensures { plane.new ≡ laid step i x plane.old }
@@ -33,54 +35,16 @@ fn lay(plane: &mut [u8], i: usize, step: usize, x: Across)
     plane[i] = x.q0;
 }
 
-fn cross_simple(b: &mut [u8], i: usize, l: Limits)
-    requires { Reaches b.old i 16 }
-    ensures { b.new ≡ crossed Kind.Simple l 16 i b.old }
+// A filter at each of sixteen places from `at` on.
+fn cross<F: Fn(Limits, Across) -> Across>(b: &mut [u8], at: usize, l: Limits, filter: F)
+    requires reach { (k : ℕ) → k < 16 → Reaches b.old (at + k) 16 }
+    requires callable { F.IsAlwaysCallable filter }
+    ensures { (kind : Kind) → Filters kind (F.post filter) → b.new ≡ edge kind l 16 at 16 1 b.old }
 {
-    let x = take(b, i, 16);
-    lay(b, i, 16, edge_filters::filter_simple(l, x));
-}
-
-fn simple_edge(b: &mut [u8], at: usize, l: Limits)
-    requires { (k : ℕ) → k < 16 → Reaches b.old (at + k) 16 }
-    ensures { b.new ≡ edge Kind.Simple l 16 at 16 1 b.old }
-{
+    // Kept: counted, since the eight pixels of a place lie in eight lines of one slice, at a distance of sixteen.
     for k in 0..16 {
-        cross_simple(b, at + k, l);
-    }
-}
-
-fn cross_outer(b: &mut [u8], i: usize, l: Limits)
-    requires { Reaches b.old i 16 }
-    ensures { b.new ≡ crossed Kind.Outer l 16 i b.old }
-{
-    let x = take(b, i, 16);
-    lay(b, i, 16, edge_filters::filter_outer(l, x));
-}
-
-fn outer_edge(b: &mut [u8], at: usize, l: Limits)
-    requires { (k : ℕ) → k < 16 → Reaches b.old (at + k) 16 }
-    ensures { b.new ≡ edge Kind.Outer l 16 at 16 1 b.old }
-{
-    for k in 0..16 {
-        cross_outer(b, at + k, l);
-    }
-}
-
-fn cross_inner(b: &mut [u8], i: usize, l: Limits)
-    requires { Reaches b.old i 16 }
-    ensures { b.new ≡ crossed Kind.Inner l 16 i b.old }
-{
-    let x = take(b, i, 16);
-    lay(b, i, 16, edge_filters::filter_inner(l, x));
-}
-
-fn inner_edge(b: &mut [u8], at: usize, l: Limits)
-    requires { (k : ℕ) → k < 16 → Reaches b.old (at + k) 16 }
-    ensures { b.new ≡ edge Kind.Inner l 16 at 16 1 b.old }
-{
-    for k in 0..16 {
-        cross_inner(b, at + k, l);
+        let x = take(b, at + k, 16);
+        lay(b, at + k, 16, filter(l, x));
     }
 }
 
@@ -88,9 +52,10 @@ pub(crate) fn lines_edge(b: &mut [u8], at: usize, kind: Kind, l: Limits)
     requires { (k : ℕ) → k < 16 → Reaches b.old (at + k) 16 }
     ensures { b.new ≡ edge kind l 16 at 16 1 b.old }
 {
+    // Kept: a kind of the RFC becomes a filter here and nowhere else, each with a loop of its own.
     match kind {
-        Kind::Simple => simple_edge(b, at, l),
-        Kind::Outer => outer_edge(b, at, l),
-        Kind::Inner => inner_edge(b, at, l),
+        Kind::Simple => cross(b, at, l, edge_filters::filter_simple),
+        Kind::Outer => cross(b, at, l, edge_filters::filter_outer),
+        Kind::Inner => cross(b, at, l, edge_filters::filter_inner),
     }
 }

@@ -10,6 +10,7 @@
 
 mod chroma;
 mod copy;
+mod direction;
 mod edge;
 mod level;
 mod luma;
@@ -17,61 +18,70 @@ mod pairs;
 mod turn;
 mod upright;
 
-ghost use Rattle.std.specs.Prelude.{◌≡◌, ◌≤◌};
-ghost use Rattle.edge_lines.specs.Sides.{seated, upright_at, level_at, upright_pair, level_pair};
+ghost use Rattle.std.specs.Prelude.{◌≡◌, ◌≤◌, ◌<◌};
+ghost use Rattle.rfc6386.specs.LoopFilter.{corner};
+ghost use Rattle.edge_lines.specs.Sides.{seated, side_at, side_pair};
 
+pub use direction::Direction;
 use macroblock::filter::Rule;
 
 // Whether macroblock c of row r, of n pixels a side, lies in a plane of `size` bytes with `cols` macroblocks a row.
+#[tactic(auto, unfolding(crate::specs::Sides::seated))]
 fn seated(n: usize, size: usize, cols: usize, r: usize, c: usize) -> bool
     requires { n ≤ 16 }
     ensures { result ≡ seated n size cols r c }
 {
-    if 1024 < cols {
-        return false;
-    }
-    if 1024 <= r {
-        return false;
-    }
-    if cols <= c {
-        return false;
-    }
-    (r + 1) * n * (n * cols) <= size
+    cols <= 1024 && r < 1024 && c < cols && (r + 1) * n * (n * cols) <= size
 }
 
-// The upright edges of macroblock c of row r in Y. A macroblock that does not lie in the plane is left alone, here and below.
-pub fn upright_luma(y: &mut [u8], cols: usize, r: usize, c: usize, inner: bool, rule: Rule)
-    ensures { y.new ≡ upright_at rule 16 cols r c inner y.old }
+// Where it begins.
+fn corner(n: usize, cols: usize, r: usize, c: usize) -> usize
+    requires { (n ≤ 16) × (cols ≤ 1024) × (r < 1024) × (c < cols) }
+    ensures { result ≡ corner n cols r c }
 {
-    if !seated(16, y.len(), cols, r, c) {
-        return;
-    }
-    let stride = 16 * cols;
-    luma::upright_side(y, r * 16 * stride + c * 16, stride, 0 < c, inner, rule);
+    r * n * (n * cols) + c * n
 }
 
-// Its level edges in Y.
-pub fn level_luma(y: &mut [u8], cols: usize, r: usize, c: usize, inner: bool, rule: Rule)
-    ensures { y.new ≡ level_at rule 16 cols r c inner y.old }
-{
-    if !seated(16, y.len(), cols, r, c) {
-        return;
-    }
-    let stride = 16 * cols;
-    luma::level_side(y, r * 16 * stride + c * 16, stride, 0 < r, inner, rule);
-}
-
-// Its upright edges in U and V.
-pub fn upright_chroma(
-    u: &mut [u8],
-    v: &mut [u8],
+// The edges of macroblock c of row r in Y in one direction. A macroblock that does not lie in the plane is left alone, here and below.
+pub fn filter_luma(
+    y: &mut [u8],
+    direction: Direction,
     cols: usize,
     r: usize,
     c: usize,
     inner: bool,
     rule: Rule,
 )
-    ensures { (u.new, v.new) ≡ upright_pair rule cols r c inner u.old v.old }
+    ensures { y.new ≡ side_at direction rule 16 cols r c inner y.old }
+{
+    if !seated(16, y.len(), cols, r, c) {
+        return;
+    }
+    let stride = 16 * cols;
+    let at = corner(16, cols, r, c);
+    luma::side(
+        y,
+        direction,
+        at,
+        stride,
+        direction.is_beyond(r, c),
+        inner,
+        rule,
+    );
+}
+
+// The same in U and V.
+pub fn filter_chroma(
+    u: &mut [u8],
+    v: &mut [u8],
+    direction: Direction,
+    cols: usize,
+    r: usize,
+    c: usize,
+    inner: bool,
+    rule: Rule,
+)
+    ensures { (u.new, v.new) ≡ side_pair direction rule cols r c inner u.old v.old }
 {
     if !seated(8, u.len(), cols, r, c) {
         return;
@@ -80,27 +90,15 @@ pub fn upright_chroma(
         return;
     }
     let stride = 8 * cols;
-    chroma::upright_side(u, v, r * 8 * stride + c * 8, stride, 0 < c, inner, rule);
-}
-
-// Its level edges in U and V.
-pub fn level_chroma(
-    u: &mut [u8],
-    v: &mut [u8],
-    cols: usize,
-    r: usize,
-    c: usize,
-    inner: bool,
-    rule: Rule,
-)
-    ensures { (u.new, v.new) ≡ level_pair rule cols r c inner u.old v.old }
-{
-    if !seated(8, u.len(), cols, r, c) {
-        return;
-    }
-    if !seated(8, v.len(), cols, r, c) {
-        return;
-    }
-    let stride = 8 * cols;
-    chroma::level_side(u, v, r * 8 * stride + c * 8, stride, 0 < r, inner, rule);
+    let at = corner(8, cols, r, c);
+    chroma::side(
+        u,
+        v,
+        direction,
+        at,
+        stride,
+        direction.is_beyond(r, c),
+        inner,
+        rule,
+    );
 }

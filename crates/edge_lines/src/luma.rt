@@ -1,96 +1,68 @@
-// The edges of a macroblock in Y, one direction at a time: its own, where the picture goes on beyond it, then the inner ones.
+// The edges of a macroblock in Y in one direction: its own, where the picture goes on beyond it, then the inner ones.
 ghost use Rattle.std.specs.Prelude.{◌≡◌, true, ◌*◌, ◌≤◌};
-ghost use Rattle.rfc6386.specs.LoopFilter.{outer_kind, inner_kind, own_edge, inner_edges, side};
-ghost use Rattle.edge_lines.specs.Sides.{Square};
+ghost use Rattle.rfc6386.specs.LoopFilter.{edge, own_edge, inner_edges, side};
+ghost use Rattle.edge_lines.specs.Sides.{Square, across, along, Room};
 
+use crate::direction::Direction;
 use crate::level::level_edge;
 use crate::upright::upright_edge;
-use macroblock::filter::{Kind, Rule};
+use macroblock::filter::{Kind, Limits, Rule};
 
-pub(crate) fn outer_kind(simple: bool) -> Kind
-    ensures { result ≡ outer_kind simple }
+fn edge(y: &mut [u8], direction: Direction, at: usize, stride: usize, kind: Kind, l: Limits)
+    requires { Room direction 16 at stride y.old }
+    ensures { y.new ≡ edge kind l 16 at (across direction stride) (along direction stride) y.old }
 {
-    if simple { Kind::Simple } else { Kind::Outer }
+    match direction {
+        Direction::Upright => upright_edge(y, at, stride, kind, l),
+        Direction::Level => level_edge(y, at, stride, kind, l),
+    }
 }
 
-pub(crate) fn inner_kind(simple: bool) -> Kind
-    ensures { result ≡ inner_kind simple }
-{
-    if simple { Kind::Simple } else { Kind::Inner }
-}
-
-fn upright_own(y: &mut [u8], at: usize, stride: usize, there: bool, rule: Rule)
-    requires { (Square y.old 16 at stride) × (there ≡ true → 4 ≤ at) }
-    ensures { y.new ≡ own_edge rule 16 at 1 stride there y.old }
+fn own_edge(y: &mut [u8], direction: Direction, at: usize, stride: usize, there: bool, rule: Rule)
+    // Kept: `Square`, here and in U and V, is one word for what a plane has at a place; a type would hold the plane, and its clauses read two
+    // moments of it: no plainer.
+    requires { (Square y.old 16 at stride) × (there ≡ true → 4 * across direction stride ≤ at) }
+    ensures { y.new ≡ own_edge rule 16 at (across direction stride) (along direction stride) there y.old }
 {
     if there {
-        let l = rule.outer;
-        upright_edge(y, at, stride, outer_kind(rule.simple), l);
+        edge(y, direction, at, stride, rule.outer_kind(), rule.outer);
     }
 }
 
-fn upright_inner(y: &mut [u8], at: usize, stride: usize, inner: bool, rule: Rule)
+fn inner_edges(
+    y: &mut [u8],
+    direction: Direction,
+    at: usize,
+    stride: usize,
+    inner: bool,
+    rule: Rule,
+)
     requires { Square y.old 16 at stride }
-    ensures { y.new ≡ inner_edges rule 16 at 1 stride inner y.old }
+    ensures { y.new ≡ inner_edges rule 16 at (across direction stride) (along direction stride) inner y.old }
 {
     if inner {
-        let l = rule.inner;
-        let kind = inner_kind(rule.simple);
-        upright_edge(y, at + 4, stride, kind, l);
-        upright_edge(y, at + 8, stride, kind, l);
-        upright_edge(y, at + 12, stride, kind, l);
+        let step = 4 * direction.across(stride);
+        // Kept: counted, since j is the edge's place and not an index.
+        for j in 0..3 {
+            let to = at + (j + 1) * step;
+            edge(y, direction, to, stride, rule.inner_kind(), rule.inner);
+        }
     }
 }
 
-pub(crate) fn upright_side(
+#[tactic(auto, unfolding(rfc6386::specs::LoopFilter::side))]
+pub(crate) fn side(
     y: &mut [u8],
+    direction: Direction,
     at: usize,
     stride: usize,
     there: bool,
     inner: bool,
     rule: Rule,
 )
-    requires { (Square y.old 16 at stride) × (there ≡ true → 4 ≤ at) }
-    ensures { y.new ≡ side rule 16 at 1 stride there inner y.old }
+    requires { (Square y.old 16 at stride) × (there ≡ true → 4 * across direction stride ≤ at) }
+    ensures { y.new ≡ side rule 16 at (across direction stride) (along direction stride) there inner y.old }
 {
-    upright_own(y, at, stride, there, rule);
-    upright_inner(y, at, stride, inner, rule);
-}
-
-fn level_own(y: &mut [u8], at: usize, stride: usize, there: bool, rule: Rule)
-    requires { (Square y.old 16 at stride) × (there ≡ true → 4 * stride ≤ at) }
-    ensures { y.new ≡ own_edge rule 16 at stride 1 there y.old }
-{
-    if there {
-        let l = rule.outer;
-        level_edge(y, at, stride, outer_kind(rule.simple), l);
-    }
-}
-
-fn level_inner(y: &mut [u8], at: usize, stride: usize, inner: bool, rule: Rule)
-    requires { Square y.old 16 at stride }
-    ensures { y.new ≡ inner_edges rule 16 at stride 1 inner y.old }
-{
-    if inner {
-        let l = rule.inner;
-        let kind = inner_kind(rule.simple);
-        level_edge(y, at + 4 * stride, stride, kind, l);
-        level_edge(y, at + 8 * stride, stride, kind, l);
-        level_edge(y, at + 12 * stride, stride, kind, l);
-    }
-}
-
-pub(crate) fn level_side(
-    y: &mut [u8],
-    at: usize,
-    stride: usize,
-    there: bool,
-    inner: bool,
-    rule: Rule,
-)
-    requires { (Square y.old 16 at stride) × (there ≡ true → 4 * stride ≤ at) }
-    ensures { y.new ≡ side rule 16 at stride 1 there inner y.old }
-{
-    level_own(y, at, stride, there, rule);
-    level_inner(y, at, stride, inner, rule);
+    own_edge(y, direction, at, stride, there, rule);
+    inner_edges(y, direction, at, stride, inner, rule);
 }

@@ -7,37 +7,23 @@ ghost use Rattle.rfc6386.specs.LoopFilter.{interior_of, hev_of, limits_of, rule_
 
 use macroblock::filter::{Limits, Rule};
 
-fn larger(x: u8, y: u8) -> u8
-    ensures { result ≡ max x y }
-{
-    if x < y { y } else { x }
-}
-
-fn smaller(x: u8, y: u8) -> u8
-    ensures { result ≡ min x y }
-{
-    if x < y { x } else { y }
-}
-
 // Half of the level, or a quarter of it in the sharper half of the scale.
 fn part_of(level: u8, sharp: u8) -> u8
     ensures { result ≡ level / pick (ltb 4 sharp) 4 2 }
 {
-    if 4 < sharp {
-        return level / 4;
-    }
-    level / 2
+    if 4 < sharp { level / 4 } else { level / 2 }
 }
 
+// Kept: a level at most 63 and a sharpness at most 7 stand in three contracts; a type for the two would be opened at once: no plainer.
 #[tactic(auto, unfolding(rfc6386::specs::LoopFilter::interior_of))]
 fn interior_limit(level: u8, sharp: u8) -> u8
     requires { sharp ≤ 7 }
     ensures { result ≡ interior_of level sharp }
 {
     if sharp == 0 {
-        return larger(1, level);
+        return level.max(1);
     }
-    larger(1, smaller(9 - sharp, part_of(level, sharp)))
+    part_of(level, sharp).min(9 - sharp).max(1)
 }
 
 // High edge variance in a key frame.
@@ -45,16 +31,15 @@ fn interior_limit(level: u8, sharp: u8) -> u8
 fn hev_limit(level: u8) -> u8
     ensures { result ≡ hev_of level }
 {
-    if level < 15 {
-        return 0;
+    match level {
+        0..15 => 0,
+        15..40 => 1,
+        _ => 2,
     }
-    if level < 40 {
-        return 1;
-    }
-    2
 }
 
 // `base` is the level, and 2 more at a macroblock's own edge.
+#[tactic(auto, unfolding(rfc6386::specs::LoopFilter::limits_of))]
 fn limits(base: u8, level: u8, sharp: u8) -> Limits
     requires { (base ≤ 65) × (level ≤ 63) × (sharp ≤ 7) }
     ensures { result ≡ limits_of base level sharp }
@@ -72,11 +57,9 @@ fn rule(simple: bool, level: u8, sharp: u8) -> Rule
     requires { (level ≤ 63) × (sharp ≤ 7) }
     ensures { result ≡ rule_of simple level sharp }
 {
-    let outer = limits(level + 2, level, sharp);
-    let inner = limits(level, level, sharp);
     Rule {
-        outer,
-        inner,
+        outer: limits(level + 2, level, sharp),
+        inner: limits(level, level, sharp),
         simple,
     }
 }
@@ -85,5 +68,5 @@ fn rule(simple: bool, level: u8, sharp: u8) -> Rule
 pub fn rule_of(simple: bool, level: u8, sharp: u8) -> Rule
     ensures { result ≡ rule_of simple (min level 63) (min sharp 7) }
 {
-    rule(simple, smaller(level, 63), smaller(sharp, 7))
+    rule(simple, level.min(63), sharp.min(7))
 }

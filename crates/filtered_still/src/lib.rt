@@ -5,10 +5,10 @@ ghost use Rattle.std.specs.Prelude.{◌≡◌};
 ghost use Rattle.still.specs.Answers.{told};
 ghost use Rattle.filtered_still.specs.Answers.{filtered_told};
 
-use macroblock::reply;
-use still::StillReply;
+use still::StillRefusal;
 
-// `still::still_alone`, and where it answers 0 `loop_filter::filter_levels` over its planes, whose reply is then the answer. The count is the still's.
+// `still::still_alone`, and where it is drawn `loop_filter::filter_levels` over its planes. A refusal of the filter has index 0; the count is the
+// still's.
 pub fn still_filtered(
     cols: usize,
     rows: usize,
@@ -22,19 +22,18 @@ pub fn still_filtered(
     y: &mut [u8],
     u: &mut [u8],
     v: &mut [u8],
-) -> StillReply
+) -> Result<u64, StillRefusal>
     ensures { told result y.new u.new v.new
         ≡ filtered_told cols rows modes.now sub_modes.now coeffs.now kind sharpness levels.now inner.now
         y.old u.old v.old }
 {
-    let drawn = still::still_alone(cols, rows, modes, sub_modes, coeffs, y, u, v);
-    if drawn.reply != reply::DONE {
-        return drawn;
-    }
-    let number = loop_filter::filter_levels(cols, rows, kind, sharpness, levels, inner, y, u, v);
-    StillReply {
-        reply: number,
-        index: 0,
-        clipped: drawn.clipped,
+    let clipped = still::still_alone(cols, rows, modes, sub_modes, coeffs, y, u, v)?;
+    match loop_filter::filter_levels(cols, rows, kind, sharpness, levels, inner, y, u, v) {
+        Ok(()) => Ok(clipped),
+        Err(refusal) => Err(StillRefusal {
+            refusal,
+            index: 0,
+            clipped,
+        }),
     }
 }

@@ -8,13 +8,11 @@ use mathlib.Core.List.{List}
 use native.Mathlib.Omega.{arith}
 use borrow.Author.Tests.{lt-ltb, le-ltb, le-leb, lt-leb}
 use lib.Dec.{ltb, leb, leb→le}
-use lib.ListN.{length, get_or, replicate, length-replicate}
+use lib.ListN.{length, get_or, replicate}
 use lib.Seq.{ext_get_or}
 use Rattle.lists.specs.Lists.{table, pick}
 use Rattle.lists.proofs.Table.{table-length, table_at, table-ext}
 use Rattle.lists.proofs.Tests.{true-T}
-use Rattle.slices.specs.Copies.{copied}
-use Rattle.slices.proofs.Copied.{copied-fit}
 use Rattle.rfc6386.specs.Picture.{row_part, pixel_of, row_above}
 use Rattle.row_part.proofs.Given.{part_length, part_at}
 use Rattle.picture_limits.specs.Place.{Placed}
@@ -90,14 +88,14 @@ module _ {n : ℕ} {l : List ℕ} {w c r : ℕ} (p : Placed n l w c r) where
     within : (n * r - 1) * (n * w) + (n * c - 1) + m ≤ length l
     within = let a = above p h in omega arith
 
-    inside-length : length part ≡ m
+    pub inside-length : length part ≡ m
     inside-length = rw (e, part_length l (n * w) (n * r - 1) (n * c - 1) m one t within) refl
 
-    pub inside_is : (right xs ys : List ℕ) → length xs ≡ m → ys ≡ copied part xs → ys ≡ row_above n m l w c r right
+    pub inside-is : (right ys : List ℕ) → ys ≡ part → ys ≡ row_above n m l w c r right
     unfolding row_above
-    inside_is right xs ys size f =
+    inside-is right ys f =
         let side = (left p g).side in
-        f ∙ copied-fit part xs (size ∙ sym inside-length)
+        f
         ∙ rw (lt-ltb 0 r h)
         (ext_get_or 0 part _ (inside-length ∙ sym (table-length m _))
         (λ i k.
@@ -106,11 +104,6 @@ module _ {n : ℕ} {l : List ℕ} {w c r : ℕ} (p : Placed n l w c r) where
         rw e (part_at l (n * w) (n * r - 1) (n * c - 1) m one t within i b) ∙ ap (λ (j : ℕ). get_or l j 0) q
         ∙ sym (table_at m _ i 0 b ∙ pixel-own l (n * w) (n * r - 1) right (n * c + i) (omega arith) (omega arith))))
 
-  -- the column of pixels before the macroblock, drawn into n zero bytes
-  module _ (xs : List ℕ) (z : xs ≡ replicate n 0) where
-    pub column-room : 0 < c → (1 ≤ n * w) × (n * r * (n * w) + (n * c - 1) + length xs * (n * w) < length l + n * w)
-    column-room h = rw (z, length-replicate) (let a = left p h in (omega arith, omega arith))
-
-    pub column-drawn : (at : ℕ) (ys : List ℕ) → ys ≡ table (length xs) (λ i. get_or l (at + i * (n * w)) 0)
-        → ys ≡ table n (λ i. get_or l (at + i * (n * w)) 0)
-    column-drawn at ys e = rw (z, length-replicate) at e
+  -- the column of pixels before the macroblock lies in the plane
+  pub column-room : 0 < c → (1 ≤ n * w) × (n * r * (n * w) + (n * c - 1) + n * (n * w) < length l + n * w)
+  column-room h = let a = left p h in (omega arith, omega arith)

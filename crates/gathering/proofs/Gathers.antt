@@ -11,8 +11,7 @@ use lib.ListN.{length, get_or}
 use Rattle.lists.specs.Lists.{part}
 use Rattle.macroblock.specs.Reply.{done, wrong_length, outside_picture}
 use Rattle.rfc6386.specs.Picture.{luma_beside, chroma_beside, neighbors_of, place_ok}
-use Rattle.gathering.specs.declared.Gathered.{Gathered}
-use Rattle.gathering.specs.Answers.{gathered, refused}
+use Rattle.gathering.specs.Answers.{Gathered, gathered, refused}
 use Rattle.picture_limits.proofs.Accepted.{Within, Lengths, place-true, place-false, sizes-true, sizes-false}
 use Rattle.picture_limits.proofs.Bounds.{placed}
 use Rattle.gathering.proofs.Pixels.{Absent, There, Around, around, right-outside, right-given, right-beside}

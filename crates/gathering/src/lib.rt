@@ -13,21 +13,14 @@
 #![tactic(auto)]
 
 ghost use Rattle.std.specs.Prelude.{◌≡◌};
-ghost use Rattle.gathering.specs.Answers.{gathered, refused};
+ghost use Rattle.gathering.specs.Answers.{gathered, told};
 
 use crate::record::beside;
-use macroblock::{MbNeighbors, reply};
+use macroblock::{MbNeighbors, Refusal};
 use picture_limits::{place_ok, sizes_ok};
 
 mod edges;
 mod record;
-
-// The neighbours, or the number of the refusal.
-#[derive(Clone, Copy)]
-pub struct Gathered {
-    pub reply: u32,
-    pub neighbors: MbNeighbors,
-}
 
 // The neighbours of the macroblock in column `col` and row `row` of a picture of `cols` by `rows` macroblocks. `right` is
 // read in the last column below the first row alone.
@@ -40,28 +33,14 @@ pub fn gather(
     col: usize,
     row: usize,
     right: [u8; 4],
-) -> Gathered
-    ensures { result ≡ gathered y.now u.now v.now cols rows col row right }
+) -> Result<MbNeighbors, Refusal>
+    ensures { told result ≡ gathered y.now u.now v.now cols rows col row right }
 {
-    let place = place_ok(cols, rows, col, row);
-    let sizes = sizes_ok(y.len(), u.len(), v.len(), cols, rows);
-    if place {
-        if sizes {
-            let neighbors = beside(y, u, v, cols, col, row, right);
-            return Gathered {
-                reply: reply::DONE,
-                neighbors,
-            };
-        }
-        return refusal(reply::WRONG_LENGTH);
+    if !place_ok(cols, rows, col, row) {
+        return Err(Refusal::OutsidePicture);
     }
-    refusal(reply::OUTSIDE_PICTURE)
-}
-
-// Every edge absent, beside the refusal's number.
-fn refusal(reply: u32) -> Gathered
-    ensures { result ≡ refused reply }
-{
-    let neighbors = MbNeighbors::absent();
-    Gathered { reply, neighbors }
+    if !sizes_ok(y.len(), u.len(), v.len(), cols, rows) {
+        return Err(Refusal::WrongLength);
+    }
+    Ok(beside(y, u, v, cols, col, row, right))
 }

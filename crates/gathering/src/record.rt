@@ -16,16 +16,14 @@ pub(crate) fn beside(
     row: usize,
     right: [u8; 4],
 ) -> MbNeighbors
+    // Kept: `Placed` and the width, here and below, are of a lent plane; a type would hold it, and its clauses read `self.entry`: no plainer.
     requires { Placed 16 y.now cols col row × Placed 8 u.now cols col row × Placed 8 v.now cols col row × (cols ≤ 1024) }
     ensures { result ≡ neighbors_of y.now u.now v.now cols col row right }
 {
-    let ey = luma_edges(y, cols, col, row, right);
-    let eu = chroma_edges(u, cols, col, row);
-    let ev = chroma_edges(v, cols, col, row);
     MbNeighbors {
-        y: ey,
-        u: eu,
-        v: ev,
+        y: luma_edges(y, cols, col, row, right),
+        u: chroma_edges(u, cols, col, row),
+        v: chroma_edges(v, cols, col, row),
     }
 }
 
@@ -33,17 +31,13 @@ fn luma_edges(plane: &[u8], cols: usize, col: usize, row: usize, right: [u8; 4])
     requires { Placed 16 plane.now cols col row × (cols ≤ 1024) }
     ensures { result ≡ luma_beside plane.now cols col row right }
 {
-    let mut above = [0u8; 21];
-    row_above(&mut above, plane, 16, cols, col, row, &right);
-    let mut left = [0u8; 16];
-    left_column(&mut left, plane, 16, cols, col, row);
     let there = 0 < row;
     LumaEdges {
-        row: above,
+        row: row_above(plane, 16, cols, col, row, &right),
         topleft_there: there,
         above_there: there,
         above_right_there: there,
-        left,
+        left: left_column(plane, cols, col, row),
         left_there: 0 < col,
     }
 }
@@ -53,17 +47,12 @@ fn chroma_edges(plane: &[u8], cols: usize, col: usize, row: usize) -> ChromaEdge
     requires { Placed 8 plane.now cols col row × (cols ≤ 1024) }
     ensures { result ≡ chroma_beside plane.now cols col row }
 {
-    let mut above = [0u8; 9];
-    let none = [0u8; 4];
-    row_above(&mut above, plane, 8, cols, col, row, &none);
-    let mut left = [0u8; 8];
-    left_column(&mut left, plane, 8, cols, col, row);
     let below = 0 < row;
     ChromaEdges {
-        row: above,
+        row: row_above(plane, 8, cols, col, row, &[0; 4]),
         topleft_there: below,
         above_there: below,
-        left,
+        left: left_column(plane, cols, col, row),
         left_there: 0 < col,
     }
 }

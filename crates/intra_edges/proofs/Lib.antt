@@ -1,3 +1,3 @@
--- The laws of an edge that is repeated down or across, and one answer only for each public function.
-pub mod Ways
+-- The sum of an edge, an array by its elements, and one answer only for each public function.
+pub mod Sums
 pub mod OneAnswer

@@ -1,7 +1,11 @@
 -- Each promise of `intra_edges` admits one answer only. Assumes nothing.
+use Prim.Native.Nat.{ℕ}
+use Rattle.std.proofs.Common.{Fits, w64}
 use Rattle.lists.proofs.Answer.{OneAnswer, same}
 use Rattle.intra_edges.proofs.pixel_or.Reads as pixel-or
 use Rattle.intra_edges.proofs.pixel_or.Kinds as pixel-or-k
+use Rattle.intra_edges.proofs.edge_or.Reads as edge-or
+use Rattle.intra_edges.proofs.edge_or.Kinds as edge-or-k
 use Rattle.intra_edges.proofs.predict_y16x16_dc.Reads as y16x16-dc
 use Rattle.intra_edges.proofs.predict_y16x16_dc.Kinds as y16x16-dc-k
 use Rattle.intra_edges.proofs.predict_y16x16_v.Reads as y16x16-v
@@ -25,6 +29,10 @@ use Rattle.intra_edges.proofs.predict_b4x4_tm.Kinds as b4x4-tm-k
 
 pub pixel-or-one : OneAnswer 0 pixel-or-k.ps pixel-or-k.r pixel-or.Post
 pixel-or-one κs a x y s t = same
+
+-- of each length that an array may have
+pub edge-or-one : (n : ℕ) (fits : Fits w64 n) → OneAnswer 1 (edge-or-k.ps n fits) (edge-or-k.r n fits) (edge-or.Post n fits)
+edge-or-one n fits κs a x y s t = same
 
 pub y16x16-dc-one : OneAnswer 0 y16x16-dc-k.ps y16x16-dc-k.r y16x16-dc.Post
 y16x16-dc-one κs a x y s t = same

@@ -1,57 +1,56 @@
-// Blocks of n by n pixels drawn into a lent slice, row after row: a flat one, and one that repeats an edge.
-ghost use Rattle.std.specs.Prelude.{◌≡◌, ◌*◌, ◌<◌, length};
-ghost use Rattle.lists.specs.Lists.{table, rows};
-ghost use Rattle.intra_edges.specs.Way.{spread, edge_block};
+// Blocks of n by n pixels, row after row, that repeat an edge.
+ghost use Rattle.std.specs.Prelude.{◌≡◌, ◌*◌, length};
+ghost use Rattle.lists.specs.Lists.{rows};
+ghost use Rattle.rfc6386.specs.Edges.{v_pixel, h_pixel, v_block, h_block};
 
-use crate::{DEFAULT_ABOVE_PIXEL, DEFAULT_LEFT_PIXEL};
+use crate::{DEFAULT_ABOVE_PIXEL, DEFAULT_LEFT_PIXEL, edge_or};
 
-// Which way an edge is repeated: V takes the row above down, H the left column across.
-#[derive(Clone, Copy)]
-pub(crate) enum Way {
-    Down,
-    Across,
-}
-
-pub(crate) fn fill(dst: &mut [u8], v: u8)
-    ensures { dst.new ≡ table (length dst.old) (λ k. v) }
+// Each row is the edge.
+fn down(out: &mut [u8], edge: &[u8])
+    requires { length out.old ≡ length edge.now * length edge.now }
+    ensures { out.new ≡ rows (length edge.now) (length edge.now) (v_pixel edge.now) }
 {
-    for k in 0..dst.len() {
-        dst[k] = v;
-    }
-}
-
-// Row r of the block.
-fn row(dst: &mut [u8], r: usize, edge: &[u8], way: Way)
-    requires { (length dst.old ≡ length edge.now) × (r < length edge.now) }
-    ensures { dst.new ≡ table (length edge.now) (spread way edge.now r) }
-{
-    match way {
-        Way::Down => slices::copy(dst, edge),
-        Way::Across => fill(dst, edge[r]),
-    }
-}
-
-fn draw(out: &mut [u8], n: usize, edge: &[u8], way: Way)
-    requires { (length out.old ≡ n * n) × (length edge.now ≡ n) }
-    ensures { out.new ≡ rows n n (spread way edge.now) }
-{
+    let n = edge.len();
+    // Kept: of what is written through chunks_exact_mut a proof knows the length alone.
     for r in 0..n {
         let at = r * n;
-        row(&mut out[at..at + n], r, edge, way);
+        out[at..at + n].copy_from_slice(edge);
     }
 }
 
-// V and H: the edge repeated, or the pixel that stands for it.
-pub(crate) fn edge_block(out: &mut [u8], n: usize, edge: &[u8], there: bool, way: Way)
-    requires { (length out.old ≡ n * n) × (length edge.now ≡ n) }
-    ensures { out.new ≡ edge_block way n edge.now there }
+// Each column is the edge.
+fn across(out: &mut [u8], edge: &[u8])
+    requires { length out.old ≡ length edge.now * length edge.now }
+    ensures { out.new ≡ rows (length edge.now) (length edge.now) (h_pixel edge.now) }
 {
-    if there {
-        draw(out, n, edge, way);
-        return;
+    let n = edge.len();
+    // Kept: of what is written through chunks_exact_mut a proof knows the length alone.
+    for r in 0..n {
+        let at = r * n;
+        out[at..at + n].fill(edge[r]);
     }
-    match way {
-        Way::Down => fill(out, DEFAULT_ABOVE_PIXEL),
-        Way::Across => fill(out, DEFAULT_LEFT_PIXEL),
-    }
+}
+
+// V: the row above, or what stands for it, in each row. M is N * N.
+// Kept: as `h_block`, each with its own default pixel and equation: as one function it would take both, no plainer.
+pub(crate) fn v_block<const N: usize, const M: usize>(above: [u8; N], there: bool) -> [u8; M]
+    // Kept: in four contracts here and beside, since Rattle has no computed const argument.
+    requires { M ≡ N * N }
+    ensures { result ≡ v_block N above.entry there }
+{
+    let edge = edge_or(DEFAULT_ABOVE_PIXEL, above, there);
+    let mut out = [0u8; M];
+    down(&mut out, &edge);
+    out
+}
+
+// H: the left column, or what stands for it, in each column. M is N * N.
+pub(crate) fn h_block<const N: usize, const M: usize>(left: [u8; N], there: bool) -> [u8; M]
+    requires { M ≡ N * N }
+    ensures { result ≡ h_block N left.entry there }
+{
+    let edge = edge_or(DEFAULT_LEFT_PIXEL, left, there);
+    let mut out = [0u8; M];
+    across(&mut out, &edge);
+    out
 }

@@ -3,18 +3,13 @@ ghost use Rattle.std.specs.Prelude.{◌≡◌, ◌+◌, ◌*◌, ◌/◌, ◌<�
 ghost use Rattle.rfc6386.specs.Edges.{sum_of, dc_pixel, dc_block};
 
 use crate::DEFAULT_TOPLEFT_DC;
-use crate::block::fill;
 
 // The sum of an edge, which is at most 255 for each pixel.
 fn edge_sum(edge: &[u8]) -> u32
     requires { length edge.now ≤ 1024 }
     ensures { (result ≡ sum_of edge.now) × (result ≤ 255 * length edge.now) }
 {
-    let mut sum: u32 = 0;
-    for i in 0..edge.len() {
-        sum += edge[i] as u32;
-    }
-    sum
+    edge.iter().map(|&pixel| u32::from(pixel)).sum()
 }
 
 // A sum of count pixels, divided by count and rounded.
@@ -25,33 +20,33 @@ fn mean(sum: u32, count: u32) -> u8
     ((sum + count / 2) / count) as u8
 }
 
-fn dc_pixel(n: usize, above: &[u8], above_there: bool, left: &[u8], left_there: bool) -> u8
-    requires { (0 < n) × (n ≤ 1024) × (length above.now ≡ n) × (length left.now ≡ n) }
-    ensures { result ≡ dc_pixel n above.now above_there left.now left_there }
+fn dc_pixel<const N: usize>(
+    above: [u8; N],
+    above_there: bool,
+    left: [u8; N],
+    left_there: bool,
+) -> u8
+    requires { (0 < N) × (N ≤ 1024) }
+    ensures { result ≡ dc_pixel N above.entry above_there left.entry left_there }
 {
-    let k = n as u32;
-    if above_there {
-        if left_there {
-            return mean(edge_sum(above) + edge_sum(left), 2 * k);
-        }
-        return mean(edge_sum(above), k);
+    let n = N as u32;
+    match (above_there, left_there) {
+        (true, true) => mean(edge_sum(&above) + edge_sum(&left), 2 * n),
+        (true, false) => mean(edge_sum(&above), n),
+        (false, true) => mean(edge_sum(&left), n),
+        (false, false) => DEFAULT_TOPLEFT_DC,
     }
-    if left_there {
-        return mean(edge_sum(left), k);
-    }
-    DEFAULT_TOPLEFT_DC
 }
 
-pub(crate) fn dc_block(
-    out: &mut [u8],
-    n: usize,
-    above: &[u8],
+// The block of N by N pixels. M is N * N.
+pub(crate) fn dc_block<const N: usize, const M: usize>(
+    above: [u8; N],
     above_there: bool,
-    left: &[u8],
+    left: [u8; N],
     left_there: bool,
-)
-    requires { (0 < n) × (n ≤ 1024) × (length out.old ≡ n * n) × (length above.now ≡ n) × (length left.now ≡ n) }
-    ensures { out.new ≡ dc_block n above.now above_there left.now left_there }
+) -> [u8; M]
+    requires { (0 < N) × (N ≤ 1024) × (M ≡ N * N) }
+    ensures { result ≡ dc_block N above.entry above_there left.entry left_there }
 {
-    fill(out, dc_pixel(n, above, above_there, left, left_there));
+    [dc_pixel(above, above_there, left, left_there); M]
 }

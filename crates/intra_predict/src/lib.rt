@@ -4,7 +4,7 @@
 
 ghost use Rattle.std.specs.Prelude.{◌≡◌};
 ghost use Rattle.rfc6386.specs.Edges.{predict_uv};
-ghost use Rattle.intra_predict.specs.Luma.{done_pixels, predicted_y};
+ghost use Rattle.intra_predict.specs.Luma.{predicted_y, told};
 
 pub use intra_edges::{
     DEFAULT_ABOVE_PIXEL, DEFAULT_LEFT_PIXEL, DEFAULT_TOPLEFT_DC, predict_uv8x8_dc, predict_uv8x8_h,
@@ -12,16 +12,10 @@ pub use intra_edges::{
     predict_y16x16_v,
 };
 pub use intra_subblock::{predict_b4x4, predict_b4x4_into};
-use macroblock::{IntraUvMode, IntraYMode, reply};
+use macroblock::{IntraUvMode, IntraYMode, Refusal};
 
-// A 16x16 prediction: reply 0 with the pixels, or 3 with zero pixels where the mode is B.
-#[derive(Clone, Copy)]
-pub struct LumaPrediction {
-    pub reply: u32,
-    pub pixels: [u8; 256],
-}
-
-// 16x16 luma. Mode B predicts its sub-blocks one by one and is refused.
+// Kept: pixels beside a mark, in both functions, are the project's form for an edge.
+// 16x16 luma. Mode B predicts its sub-blocks one by one and is refused (reply 3).
 pub fn predict_y16x16(
     mode: IntraYMode,
     above: [u8; 16],
@@ -29,27 +23,15 @@ pub fn predict_y16x16(
     left: [u8; 16],
     left_there: bool,
     p: u8,
-) -> LumaPrediction
-    ensures { result ≡ predicted_y mode above above_there left left_there p }
+) -> Result<[u8; 256], Refusal>
+    ensures { told result ≡ predicted_y mode above above_there left left_there p }
 {
     match mode {
-        IntraYMode::Dc => done(predict_y16x16_dc(above, above_there, left, left_there)),
-        IntraYMode::V => done(predict_y16x16_v(above, above_there)),
-        IntraYMode::H => done(predict_y16x16_h(left, left_there)),
-        IntraYMode::Tm => done(predict_y16x16_tm(above, above_there, left, left_there, p)),
-        IntraYMode::B => LumaPrediction {
-            reply: reply::B_PRED,
-            pixels: [0u8; 256],
-        },
-    }
-}
-
-fn done(pixels: [u8; 256]) -> LumaPrediction
-    ensures { result ≡ done_pixels pixels }
-{
-    LumaPrediction {
-        reply: reply::DONE,
-        pixels: pixels,
+        IntraYMode::Dc => Ok(predict_y16x16_dc(above, above_there, left, left_there)),
+        IntraYMode::V => Ok(predict_y16x16_v(above, above_there)),
+        IntraYMode::H => Ok(predict_y16x16_h(left, left_there)),
+        IntraYMode::Tm => Ok(predict_y16x16_tm(above, above_there, left, left_there, p)),
+        IntraYMode::B => Err(Refusal::BPred),
     }
 }
 

@@ -28,46 +28,16 @@ pub fn predict_b4x4_into(out: &mut [u8; 16], mode: IntraBmode, above: [u8; 8], l
     ensures { out.new ≡ predict_b mode above left p }
 {
     match mode {
-        IntraBmode::Dc => {
-            let px = dc(above, left);
-            *out = px;
-        }
-        IntraBmode::Tm => {
-            let px = tm(above, left, p);
-            *out = px;
-        }
-        IntraBmode::Ve => {
-            let px = ve(above, p);
-            *out = px;
-        }
-        IntraBmode::He => {
-            let px = he(left, p);
-            *out = px;
-        }
-        IntraBmode::Ld => {
-            let px = ld(above);
-            *out = px;
-        }
-        IntraBmode::Rd => {
-            let px = rd(edge_e(above, left, p));
-            *out = px;
-        }
-        IntraBmode::Vr => {
-            let px = vr(edge_e(above, left, p));
-            *out = px;
-        }
-        IntraBmode::Vl => {
-            let px = vl(above);
-            *out = px;
-        }
-        IntraBmode::Hd => {
-            let px = hd(edge_e(above, left, p));
-            *out = px;
-        }
-        IntraBmode::Hu => {
-            let px = hu(left);
-            *out = px;
-        }
+        IntraBmode::Dc => *out = dc(above, left),
+        IntraBmode::Tm => *out = tm(above, left, p),
+        IntraBmode::Ve => *out = ve(above, p),
+        IntraBmode::He => *out = he(left, p),
+        IntraBmode::Ld => *out = ld(above),
+        IntraBmode::Rd => *out = rd(edge_e(above, left, p)),
+        IntraBmode::Vr => *out = vr(edge_e(above, left, p)),
+        IntraBmode::Vl => *out = vl(above),
+        IntraBmode::Hd => *out = hd(edge_e(above, left, p)),
+        IntraBmode::Hu => *out = hu(left),
     }
 }
 

@@ -8,14 +8,14 @@ ghost use Rattle.intra_subblock.specs.Line.{steps_line, OnLine, line_pixel};
 pub(crate) fn avg2(x: u8, y: u8) -> u8
     ensures { result ≡ avg2 x y }
 {
-    ((x as u16 + y as u16 + 1) / 2) as u8
+    ((u16::from(x) + u16::from(y) + 1) / 2) as u8
 }
 
 // (x + 2 y + z + 2) >> 2
 pub(crate) fn avg3(x: u8, y: u8, z: u8) -> u8
     ensures { result ≡ avg3 x y z }
 {
-    ((x as u16 + 2 * (y as u16) + z as u16 + 2) / 4) as u8
+    ((u16::from(x) + 2 * u16::from(y) + u16::from(z) + 2) / 4) as u8
 }
 
 // avg2 at i, of pixels i and i + 1.
@@ -38,11 +38,7 @@ pub(crate) fn avg3p(e: [u8; 9], i: usize) -> u8
 pub(crate) fn slope(e: [u8; 9]) -> [u8; 7]
     ensures { result ≡ table 7 (λ k. avg3_at e (k + 1)) }
 {
-    let mut line = [0u8; 7];
-    for k in 0..7 {
-        line[k] = avg3p(e, k + 1);
-    }
-    line
+    std::array::from_fn(|k| avg3p(e, k + 1))
 }
 
 // avg2 and avg3 in turn from the edge's start, and two values more.
@@ -68,6 +64,7 @@ pub(crate) fn drawn(line: &[u8], starts: [usize; 4], step: usize) -> [u8; 16]
     requires { OnLine starts step (length line.now) }
     ensures { result ≡ rows 4 4 (line_pixel line.now starts step) }
 {
+    // Kept: no plainer by from_fn, whose closure would have to require OnLine once more.
     let mut out = [0u8; 16];
     for i in 0..16 {
         let at = starts[i / 4] + i % 4 * step;

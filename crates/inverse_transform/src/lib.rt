@@ -8,9 +8,7 @@
 
 pub use dct::inverse_dct_4x4;
 pub use quantiser::{
-    AC_QLOOKUP, DC_QLOOKUP, QINDEX_RANGE, Y1DequantFactors, clamp_qindex, dequant_block,
+    AC_QLOOKUP, DC_QLOOKUP, QINDEX_RANGE, Y1DequantFactors, clamp_qindex, dequant_block, with_delta,
 };
-pub use residue::{
-    AddedInto, Summed, add_residue, add_residue_4x4, clamp255, inverse_dct_4x4_add_into,
-};
+pub use residue::{Summed, add_residue, add_residue_4x4, clamp255, inverse_dct_4x4_add_into};
 pub use wht::{inverse_wht_4x4, inverse_wht_4x4_dc_only};

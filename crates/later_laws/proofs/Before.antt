@@ -15,7 +15,7 @@ use lib.ListN.{length}
 use Rattle.lists.specs.Lists.{turns, pick}
 use Rattle.macroblock.specs.Reply.{done, unknown_byte}
 use Rattle.picture_limits.proofs.Accepted.{Within, Lengths}
-use Rattle.reconstruct.specs.declared.ReconstructedMb.{ReconstructedMb}
+use Rattle.reconstruct.specs.Answers.{MbAnswer}
 use Rattle.drawing.specs.Drawn.{drawn}
 use Rattle.still.specs.Picture.{Progress, first, picture}
 use Rattle.still_laws.specs.Words.{luma_byte, chroma_byte, skip_byte, subs_at, coeffs_at, made_at, bytes_known, Finished, Plane}
@@ -107,10 +107,10 @@ module _ (w h : ℕ) (right : ℕ → List ℕ → List ℕ) (a b : Given) (one 
         (rw (by_place j) l)
 
     -- ---- what the walkers make
-    abbrev made-a : ℕ → ReconstructedMb
+    abbrev made-a : ℕ → MbAnswer
     made-a j = made_at w h a.modes a.subs a.coeffs right j (turn_of w h right a j)
 
-    abbrev made-b : ℕ → ReconstructedMb
+    abbrev made-b : ℕ → MbAnswer
     made-b j = made_at w h b.modes b.subs b.coeffs right j (turn_of w h right b j)
 
     pub same_whole : (j : ℕ) → j < k → Finished w h d j → made-a j ≡ made-b j

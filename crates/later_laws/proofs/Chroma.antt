@@ -18,13 +18,12 @@ use Rattle.macroblock.specs.declared.neighbors.MbNeighbors.{MbNeighbors}
 use Rattle.rfc6386.specs.Edges.{is_b}
 use Rattle.rfc6386.specs.Walk.{block_at, uv_prediction, uv_plane}
 use Rattle.rfc6386.proofs.Planes.{plane-ext}
-use Rattle.reconstruct.specs.declared.ReconstructedMb.{ReconstructedMb}
-use Rattle.reconstruct.specs.Answers.{refusal, whole_of, parts_of, non_b, walk_b}
+use Rattle.reconstruct.specs.Answers.{MbAnswer, refusal, whole_of, parts_of, non_b, walk_b}
 use Rattle.drawing.specs.Drawn.{modes_known, modes_of, sub_modes_of, subs_known, drawn_b, drawn_in, drawn}
 use Rattle.still_laws.specs.Words.{Plane, in_y, in_u, in_v, pixels_of}
 
 -- one of two that are the same in the plane p
-chosen : (p : Plane) (b : Bool) (x y z t : ReconstructedMb) → pixels_of p x ≡ pixels_of p y → pixels_of p z ≡ pixels_of p t → pixels_of p (pick b x z) ≡ pixels_of p (pick b y t)
+chosen : (p : Plane) (b : Bool) (x y z t : MbAnswer) → pixels_of p x ≡ pixels_of p y → pixels_of p z ≡ pixels_of p t → pixels_of p (pick b x z) ≡ pixels_of p (pick b y t)
 chosen p true x y z t r s = r
 chosen p false x y z t r s = s
 

@@ -15,7 +15,7 @@ use Rattle.lists.specs.Lists.{turns, total}
 use Rattle.lists.proofs.Total.{total_ext, total-add, total-none}
 use Rattle.macroblock.specs.Reply.{done}
 use Rattle.picture_limits.proofs.Accepted.{Within}
-use Rattle.reconstruct.specs.declared.ReconstructedMb.{ReconstructedMb}
+use Rattle.reconstruct.specs.Answers.{MbAnswer}
 use Rattle.gathering.specs.Answers.{gathered}
 use Rattle.canvas.specs.Into.{made, clipped_into}
 use Rattle.still.specs.Picture.{Progress, first, picture, count_at, count_in, first_clipped, picture_clipped}
@@ -30,7 +30,7 @@ use Rattle.later_laws.proofs.Before.{zero_or_not, Fitting, same-reply, same_whol
 
 -- ---- one macroblock
 module _ (w h : ℕ) (right : ℕ → List ℕ → List ℕ) (a : Given) (fits : Fitting w h a) where
-  abbrev made_of : ℕ → ReconstructedMb
+  abbrev made_of : ℕ → MbAnswer
   made_of n = made_at w h a.modes a.subs a.coeffs right n (turn_of w h right a n)
 
   abbrev count_of : ℕ → ℕ
@@ -74,7 +74,7 @@ module _ (w h : ℕ) (right : ℕ → List ℕ → List ℕ) (steady : Within w 
       (λ z.
       let f : Finished w h (picture w h a.modes a.subs a.coeffs right a.y a.u a.v) j = drawn-finished w h a.modes a.subs a.coeffs right a.y a.u a.v j m z in
       let q : (turn_of w h right a j).reply ≡ 0 = step-accepted (first_step w h a.modes a.subs a.coeffs right a.y a.u a.v j) z in
-      count-made w h right a one j m q ∙ ap (λ (x : ReconstructedMb). x.clipped) (same_whole w h right a b one two k inside same steady j l f)
+      count-made w h right a one j m q ∙ ap (λ (x : MbAnswer). x.clipped) (same_whole w h right a b one two k inside same steady j l f)
       ∙ sym (count-made w h right b two j m (sym (same-reply w h right a b one two k inside same j (le_of_lt l)) ∙ q)))
       (λ r. count-refused w h right a one j m r ∙ sym (count-refused w h right b two j m (λ z. r (t ∙ z))))
       (zero_or_not (turn_of w h right a (suc j)).reply)

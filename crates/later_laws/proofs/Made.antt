@@ -22,17 +22,16 @@ use Rattle.macroblock.specs.declared.neighbors.MbNeighbors.{MbNeighbors}
 use Rattle.rfc6386.specs.Edges.{is_b}
 use Rattle.rfc6386.specs.Picture.{row_above, left_of, luma_beside, chroma_beside, neighbors_of}
 use Rattle.rfc6386.specs.Walk.{y_whole, uv_plane, y_parts}
-use Rattle.reconstruct.specs.declared.ReconstructedMb.{ReconstructedMb}
-use Rattle.reconstruct.specs.Answers.{refusal, whole_of, parts_of, non_b, walk_b}
+use Rattle.reconstruct.specs.Answers.{MbAnswer, refusal, whole_of, parts_of, non_b, walk_b}
 use Rattle.drawing.specs.Drawn.{modes_known, modes_of, sub_modes_of, subs_known, drawn_b, drawn_in, drawn}
 use Rattle.still.specs.Picture.{Progress}
 use Rattle.still_laws.specs.Words.{Plane, in_y, in_u, in_v, side, plane_of, pixels_of}
 
 -- ---- f is the part, n and o are the neighbours
-module _ {A : Type 0} (f : ReconstructedMb → A) (n o : MbNeighbors)
+module _ {A : Type 0} (f : MbAnswer → A) (n o : MbNeighbors)
     (whole : (y : IntraYMode) (uv : IntraUvMode) (skip : Bool) (c : List ℤ) → f (whole_of y uv skip n c) ≡ f (whole_of y uv skip o c))
     (parts : (subs : List IntraBmode) (uv : IntraUvMode) (skip : Bool) (c : List ℤ) → f (parts_of subs uv skip n c) ≡ f (parts_of subs uv skip o c)) where
-  chosen : (b : Bool) (x y z t : ReconstructedMb) → f x ≡ f y → f z ≡ f t → f (pick b x z) ≡ f (pick b y t)
+  chosen : (b : Bool) (x y z t : MbAnswer) → f x ≡ f y → f z ≡ f t → f (pick b x z) ≡ f (pick b y t)
   chosen true x y z t p q = p
   chosen false x y z t p q = q
 

@@ -9,7 +9,7 @@ use mathlib.Core.List.{List, []}
 use native.Mathlib.Nat.{mod-lt, le_of_lt}
 use native.Mathlib.Omega.{arith}
 use lib.ListN.{length, get_or}
-use Rattle.reconstruct.specs.declared.ReconstructedMb.{ReconstructedMb}
+use Rattle.reconstruct.specs.Answers.{MbAnswer}
 use Rattle.picture_limits.proofs.Accepted.{Within}
 use Rattle.still.specs.Picture.{Progress}
 use Rattle.still.proofs.Sizes.{row_within}
@@ -115,11 +115,11 @@ module _ (w h : ℕ) (right : ℕ → List ℕ → List ℕ) (steady : Within w 
     same-made : SameMade p a b k
         → pixels_of p (made_at w h a.modes a.subs a.coeffs right k before) ≡ pixels_of p (made_at w h b.modes b.subs b.coeffs right k other)
     same-made s =
-        ap (λ (m : ReconstructedMb). pixels_of p m) (made-is w h right a one k f)
+        ap (λ (m : MbAnswer). pixels_of p m) (made-is w h right a one k f)
         ∙ drawn-pixels w (k / w) (k % w) before (right (k / w) before.y) other (right (k / w) other.y) p edges
         (luma_byte a.modes k) (chroma_byte a.modes k) (skip_byte a.modes k) (subs_at a.subs k) true (coeffs_at a.coeffs k)
         ∙ s (around w (k / w) (k % w) other (right (k / w) other.y))
-        ∙ sym (ap (λ (m : ReconstructedMb). pixels_of p m) (made-is w h right b two k g))
+        ∙ sym (ap (λ (m : MbAnswer). pixels_of p m) (made-is w h right b two k g))
 
     same_here : SameMade p a b k → SamePixels p w k d e
     same_here s i x hi hx =

@@ -14,7 +14,7 @@ use native.Mathlib.Nat.{div-add-mod, mul-add-mod_self_left, mod-eq_of_lt, mul-ad
 use native.Mathlib.Omega.{arith}
 use lib.ListN.{length}
 use Rattle.macroblock.specs.declared.neighbors.MbNeighbors.{MbNeighbors}
-use Rattle.reconstruct.specs.declared.ReconstructedMb.{ReconstructedMb}
+use Rattle.reconstruct.specs.Answers.{MbAnswer}
 use Rattle.picture_limits.proofs.Accepted.{Within, Lengths}
 use Rattle.drawing.specs.Drawn.{drawn}
 use Rattle.canvas.specs.Into.{made}
@@ -117,4 +117,4 @@ SameMade p a b j =
     ≡ pixels_of p (drawn (luma_byte b.modes j) (chroma_byte b.modes j) (skip_byte b.modes j) (subs_at b.subs j) true n (coeffs_at b.coeffs j))
 
 pub given_made : (p : Plane) (a b : Given) (j : ℕ) → SameAt a b j → SameMade p a b j
-given_made p a b j s n = ap (λ (m : ReconstructedMb). pixels_of p m) (given-same a b j n s)
+given_made p a b j s n = ap (λ (m : MbAnswer). pixels_of p m) (given-same a b j n s)

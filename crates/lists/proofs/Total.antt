@@ -3,11 +3,17 @@
 --     total_ext                rules that agree have equal totals
 --     total-none               a rule of zeros
 --     total-add, total-flat    in two parts, and row after row
+--     sum-total                the sum of a list is the total of its entries
 -- Assumes nothing.
-use mathlib.Core.Path.{◌≡◌, refl, ap}
+use mathlib.Core.Path.{◌≡◌, refl, sym, ap, ◌∙◌}
+use mathlib.Core.List.{List}
 use Prim.Native.Nat.{ℕ, zero, suc, ◌+◌, ◌*◌, ◌<◌, ◌≤◌}
 use native.Mathlib.Nat.{add-zero, add-suc, suc-mul, zero-mul}
 use native.Mathlib.Numerals.{add-one}
+use lib.ListN.{length, get_or, take}
+use lib.Seq.{take_all}
+use Rattle.std.specs.List.{sum_by}
+use Rattle.std.proofs.lemmas.List.Sums.{sum_by_more}
 use native.Mathlib.Omega.{arith}
 use Rattle.lists.specs.Lists.{total}
 
@@ -45,3 +51,15 @@ total-flat w zero f g e = rw zero-mul
 total-flat w (suc h) f g e =
     rw (suc-mul, total-add (h * w) w g, total-flat w h f g (λ r c l k. e r c (omega arith) k))
     (ap (λ (s : ℕ). total (h * w) g + s) (total_ext w (f h) (λ c. g (h * w + c)) (λ c k. e h c (omega arith) k)))
+
+-- a sum over a list
+module _ {X : Type 0} (f : X → ℕ) (xs : List X) (d : X) where
+  sum-front : (n : ℕ) → n ≤ length xs → sum_by f (take n xs) ≡ total n (λ i. f (get_or xs i d))
+  unfolding total
+  sum-front zero h = refl
+  sum-front (suc n) h =
+      let e : suc n ≡ n + 1 = omega arith in
+      ap (λ (m : ℕ). sum_by f (take m xs)) e ∙ sum_by_more f xs n d (omega arith) ∙ ap (λ (m : ℕ). m + f (get_or xs n d)) (sum-front n (omega arith))
+
+  pub sum-total : (n : ℕ) → length xs ≡ n → sum_by f xs ≡ total n (λ i. f (get_or xs i d))
+  sum-total n e = ap (sum_by f) (sym (take_all n xs (omega arith))) ∙ sum-front n (omega arith)

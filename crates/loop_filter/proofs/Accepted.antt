@@ -1,6 +1,6 @@
 -- What it says that nothing is refused. Assumes nothing.
 use Prim.Native.Nat.{ℕ, ◌*◌, ◌<◌, ◌≤◌}
-use mathlib.Core.Path.{◌≡◌, refl}
+use mathlib.Core.Path.{◌≡◌, refl, ap, ◌∙◌}
 use mathlib.Core.Bool.{Bool, true, false}
 use mathlib.Core.List.{List}
 use native.Mathlib.Omega.{arith}
@@ -9,6 +9,10 @@ use lib.ListN.{length}
 use borrow.Author.Tests.{leb-true, eqb-true, ne_eqb}
 use Rattle.lists.specs.Lists.{pick, both}
 use Rattle.lists.proofs.Tests.{left-holds, right-holds}
+use Rattle.std.specs.Prelude.{Result, Err}
+use Rattle.macroblock.specs.Reply.{number, reply_of}
+use Rattle.macroblock.specs.declared.reply.Refusal.{Refusal}
+use Rattle.macroblock.proofs.Refusals.{number-more}
 use Rattle.rfc6386.specs.Picture.{place_ok, sizes_ok}
 use Rattle.picture_limits.proofs.Accepted.{place-says, sizes-say}
 use Rattle.loop_filter.specs.Picture.{Ready}
@@ -65,6 +69,9 @@ module _ (cols rows : ℕ) (y u v inner : List ℕ) (levels : ℕ) (low : Bool) 
 pub refused-is : (n m : ℕ) (a b : Planes) → m ≡ n → (m ≡ 0 → ⊥) → ◌≡◌ {A = Answer} (m, b.0, b.1, b.2) (answered n a b)
 unfolding answered
 refused-is n m a b e h = rw (← e, ne_eqb m 0 h)
+
+pub err-is : (n : ℕ) (r : Result (Unit {0}) Refusal) (e : Refusal) (a b : Planes) → r ≡ Err e → number e ≡ n → ◌≡◌ {A = Answer} (reply_of r, b.0, b.1, b.2) (answered n a b)
+err-is n r e a b f h = refused-is n (reply_of r) a b (ap reply_of f ∙ h) (λ z. let m = number-more e in let i : reply_of r ≡ number e = ap reply_of f in omega (arith, m, z, i))
 
 pub done-is : (n : ℕ) (a b : Planes) (y u v : List ℕ) → n ≡ 0 → y ≡ a.0 → u ≡ a.1 → v ≡ a.2 → ◌≡◌ {A = Answer} (0, y, u, v) (answered n a b)
 unfolding answered

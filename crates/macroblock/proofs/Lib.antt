@@ -1,3 +1,5 @@
--- The laws of the modes' numbers, and one answer only for each public function.
+-- The laws of the modes' numbers and of the refusals', and one answer only for each public function.
 pub mod ModeNumbers
+pub mod Refusals
+pub mod Within
 pub mod OneAnswer

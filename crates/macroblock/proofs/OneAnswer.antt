@@ -1,17 +1,14 @@
 -- Each promise of `macroblock` admits one answer only. What is promised of an answer about a byte is its reading, `y_answer` and
 -- its two sisters; no two answers read the same.
 -- Assumes nothing.
-use mathlib.Core.Path.{◌≡◌, refl, ap}
-use Prim.Native.Nat.{ℕ}
-use native.Mathlib.Omega.{arith}
+use mathlib.Core.Path.{refl, sym, ◌∙◌}
 use Rattle.lists.proofs.Answer.{OneAnswer, same}
-use Rattle.macroblock.specs.declared.numbers.YModeOf.{YModeOf}
-use Rattle.macroblock.specs.declared.numbers.YModeOf.TheVariants as y_of
-use Rattle.macroblock.specs.declared.numbers.UvModeOf.{UvModeOf}
-use Rattle.macroblock.specs.declared.numbers.UvModeOf.TheVariants as uv_of
-use Rattle.macroblock.specs.declared.numbers.BModeOf.{BModeOf}
-use Rattle.macroblock.specs.declared.numbers.BModeOf.TheVariants as b_of
 use Rattle.macroblock.specs.Modes.{y_answer, uv_answer, b_answer}
+use Rattle.macroblock.proofs.Refusals.{one_answer}
+use Rattle.macroblock.proofs.filter.Rule.outer_kind.Reads as outer-kind
+use Rattle.macroblock.proofs.filter.Rule.outer_kind.Kinds as outer-kind-k
+use Rattle.macroblock.proofs.filter.Rule.inner_kind.Reads as inner-kind
+use Rattle.macroblock.proofs.filter.Rule.inner_kind.Kinds as inner-kind-k
 use Rattle.macroblock.proofs.neighbors.LumaEdges.absent.Reads as luma-absent
 use Rattle.macroblock.proofs.neighbors.LumaEdges.absent.Kinds as luma-absent-k
 use Rattle.macroblock.proofs.neighbors.LumaEdges.above.Reads as luma-above
@@ -24,34 +21,24 @@ use Rattle.macroblock.proofs.neighbors.MbNeighbors.absent.Reads as absent
 use Rattle.macroblock.proofs.neighbors.MbNeighbors.absent.Kinds as absent-k
 use Rattle.macroblock.proofs.reply.numbers.Reads as replies
 use Rattle.macroblock.proofs.reply.numbers.Kinds as replies-k
-use Rattle.macroblock.proofs.numbers.y_mode_number.Reads as y-mode-number
-use Rattle.macroblock.proofs.numbers.y_mode_number.Kinds as y-mode-number-k
-use Rattle.macroblock.proofs.numbers.uv_mode_number.Reads as uv-mode-number
-use Rattle.macroblock.proofs.numbers.uv_mode_number.Kinds as uv-mode-number-k
-use Rattle.macroblock.proofs.numbers.b_mode_number.Reads as b-mode-number
-use Rattle.macroblock.proofs.numbers.b_mode_number.Kinds as b-mode-number-k
-use Rattle.macroblock.proofs.numbers.y_mode_of.Reads as y-mode-of
-use Rattle.macroblock.proofs.numbers.y_mode_of.Kinds as y-mode-of-k
-use Rattle.macroblock.proofs.numbers.uv_mode_of.Reads as uv-mode-of
-use Rattle.macroblock.proofs.numbers.uv_mode_of.Kinds as uv-mode-of-k
-use Rattle.macroblock.proofs.numbers.b_mode_of.Reads as b-mode-of
-use Rattle.macroblock.proofs.numbers.b_mode_of.Kinds as b-mode-of-k
-use Rattle.macroblock.proofs.bytes.y_mode.Reads as y-mode
-use Rattle.macroblock.proofs.bytes.y_mode.Kinds as y-mode-k
-use Rattle.macroblock.proofs.bytes.y_reply.Reads as y-reply
-use Rattle.macroblock.proofs.bytes.y_reply.Kinds as y-reply-k
-use Rattle.macroblock.proofs.bytes.uv_mode.Reads as uv-mode
-use Rattle.macroblock.proofs.bytes.uv_mode.Kinds as uv-mode-k
-use Rattle.macroblock.proofs.bytes.uv_reply.Reads as uv-reply
-use Rattle.macroblock.proofs.bytes.uv_reply.Kinds as uv-reply-k
-use Rattle.macroblock.proofs.bytes.b_mode.Reads as b-mode
-use Rattle.macroblock.proofs.bytes.b_mode.Kinds as b-mode-k
-use Rattle.macroblock.proofs.bytes.b_reply.Reads as b-reply
-use Rattle.macroblock.proofs.bytes.b_reply.Kinds as b-reply-k
+use Rattle.macroblock.proofs.reply.Refusal.number.Reads as number
+use Rattle.macroblock.proofs.reply.Refusal.number.Kinds as number-k
+use Rattle.macroblock.proofs.modes.U8FromIntraYMode.from.Reads as y-number
+use Rattle.macroblock.proofs.modes.U8FromIntraYMode.from.Kinds as y-number-k
+use Rattle.macroblock.proofs.modes.U8FromIntraUvMode.from.Reads as uv-number
+use Rattle.macroblock.proofs.modes.U8FromIntraUvMode.from.Kinds as uv-number-k
+use Rattle.macroblock.proofs.modes.U8FromIntraBmode.from.Reads as b-number
+use Rattle.macroblock.proofs.modes.U8FromIntraBmode.from.Kinds as b-number-k
 use Rattle.macroblock.proofs.bytes.b_modes_known.Reads as b-modes-known
 use Rattle.macroblock.proofs.bytes.b_modes_known.Kinds as b-modes-known-k
 use Rattle.macroblock.proofs.bytes.all_within.Reads as all-within
 use Rattle.macroblock.proofs.bytes.all_within.Kinds as all-within-k
+use Rattle.macroblock.proofs.modes.IntraYModeTryFromU8.try_from.Reads as y-mode
+use Rattle.macroblock.proofs.modes.IntraYModeTryFromU8.try_from.Kinds as y-mode-k
+use Rattle.macroblock.proofs.modes.IntraUvModeTryFromU8.try_from.Reads as uv-mode
+use Rattle.macroblock.proofs.modes.IntraUvModeTryFromU8.try_from.Kinds as uv-mode-k
+use Rattle.macroblock.proofs.modes.IntraBmodeTryFromU8.try_from.Reads as b-mode
+use Rattle.macroblock.proofs.modes.IntraBmodeTryFromU8.try_from.Kinds as b-mode-k
 
 pub luma-absent-one : OneAnswer 0 luma-absent-k.ps luma-absent-k.r luma-absent.Post
 luma-absent-one κs a x y s t = same
@@ -71,32 +58,17 @@ absent-one κs a x y s t = same
 pub replies-one : OneAnswer 0 replies-k.ps replies-k.r replies.Post
 replies-one κs a x y s t = same
 
-pub y-mode-number-one : OneAnswer 0 y-mode-number-k.ps y-mode-number-k.r y-mode-number.Post
-y-mode-number-one κs a x y s t = same
+pub number-one : OneAnswer 0 number-k.ps number-k.r number.Post
+number-one κs a x y s t = same
 
-pub uv-mode-number-one : OneAnswer 0 uv-mode-number-k.ps uv-mode-number-k.r uv-mode-number.Post
-uv-mode-number-one κs a x y s t = same
+pub y-number-one : OneAnswer 0 y-number-k.ps y-number-k.r y-number.Post
+y-number-one κs a x y s t = same
 
-pub b-mode-number-one : OneAnswer 0 b-mode-number-k.ps b-mode-number-k.r b-mode-number.Post
-b-mode-number-one κs a x y s t = same
+pub uv-number-one : OneAnswer 0 uv-number-k.ps uv-number-k.r uv-number.Post
+uv-number-one κs a x y s t = same
 
-pub y-mode-one : OneAnswer 0 y-mode-k.ps y-mode-k.r y-mode.Post
-y-mode-one κs a x y s t = same
-
-pub y-reply-one : OneAnswer 0 y-reply-k.ps y-reply-k.r y-reply.Post
-y-reply-one κs a x y s t = same
-
-pub uv-mode-one : OneAnswer 0 uv-mode-k.ps uv-mode-k.r uv-mode.Post
-uv-mode-one κs a x y s t = same
-
-pub uv-reply-one : OneAnswer 0 uv-reply-k.ps uv-reply-k.r uv-reply.Post
-uv-reply-one κs a x y s t = same
-
-pub b-mode-one : OneAnswer 0 b-mode-k.ps b-mode-k.r b-mode.Post
-b-mode-one κs a x y s t = same
-
-pub b-reply-one : OneAnswer 0 b-reply-k.ps b-reply-k.r b-reply.Post
-b-reply-one κs a x y s t = same
+pub b-number-one : OneAnswer 0 b-number-k.ps b-number-k.r b-number.Post
+b-number-one κs a x y s t = same
 
 pub b-modes-known-one : OneAnswer 0 b-modes-known-k.ps b-modes-known-k.r b-modes-known.Post
 b-modes-known-one κs a x y s t = same
@@ -104,36 +76,18 @@ b-modes-known-one κs a x y s t = same
 pub all-within-one : OneAnswer 1 all-within-k.ps all-within-k.r all-within.Post
 all-within-one κs a x y s t = same
 
--- ---- a reading tells its answer: 0 stands beside the mode itself, and 0 is not 8
-reply : {A : Type 0} {u v : ℕ × A} → u ≡ v → u.0 ≡ v.0
-reply {A} e = ap (λ (x : ℕ × A). x.0) e
+pub outer-kind-one : OneAnswer 0 outer-kind-k.ps outer-kind-k.r outer-kind.Post
+outer-kind-one κs a x y s t = same
 
-mode : {A : Type 0} {u v : ℕ × A} → u ≡ v → u.1 ≡ v.1
-mode {A} e = ap (λ (x : ℕ × A). x.1) e
+pub inner-kind-one : OneAnswer 0 inner-kind-k.ps inner-kind-k.r inner-kind.Post
+inner-kind-one κs a x y s t = same
 
-y-told : (x y : YModeOf) → y_answer x ≡ y_answer y → x ≡ y
-y-told (y_of.Mode m) (y_of.Mode k) e = ap y_of.Mode (mode e)
-y-told (y_of.Mode m) y_of.Unknown e = let q = reply e in absurd (omega arith)
-y-told y_of.Unknown (y_of.Mode k) e = let q = reply e in absurd (omega arith)
-y-told y_of.Unknown y_of.Unknown e = refl
+-- ---- a reading tells its answer
+pub y-mode-one : OneAnswer 0 y-mode-k.ps y-mode-k.r y-mode.Post
+y-mode-one κs a x y s t p q = one_answer y_answer (λ w. w.0) (λ w. w.1) (λ _. refl) (λ _. refl) (λ _. refl) x y (p ∙ sym q)
 
-pub y-mode-of-one : OneAnswer 0 y-mode-of-k.ps y-mode-of-k.r y-mode-of.Post
-y-mode-of-one κs a x y s t p q = y-told x y (same p q)
+pub uv-mode-one : OneAnswer 0 uv-mode-k.ps uv-mode-k.r uv-mode.Post
+uv-mode-one κs a x y s t p q = one_answer uv_answer (λ w. w.0) (λ w. w.1) (λ _. refl) (λ _. refl) (λ _. refl) x y (p ∙ sym q)
 
-uv-told : (x y : UvModeOf) → uv_answer x ≡ uv_answer y → x ≡ y
-uv-told (uv_of.Mode m) (uv_of.Mode k) e = ap uv_of.Mode (mode e)
-uv-told (uv_of.Mode m) uv_of.Unknown e = let q = reply e in absurd (omega arith)
-uv-told uv_of.Unknown (uv_of.Mode k) e = let q = reply e in absurd (omega arith)
-uv-told uv_of.Unknown uv_of.Unknown e = refl
-
-pub uv-mode-of-one : OneAnswer 0 uv-mode-of-k.ps uv-mode-of-k.r uv-mode-of.Post
-uv-mode-of-one κs a x y s t p q = uv-told x y (same p q)
-
-b-told : (x y : BModeOf) → b_answer x ≡ b_answer y → x ≡ y
-b-told (b_of.Mode m) (b_of.Mode k) e = ap b_of.Mode (mode e)
-b-told (b_of.Mode m) b_of.Unknown e = let q = reply e in absurd (omega arith)
-b-told b_of.Unknown (b_of.Mode k) e = let q = reply e in absurd (omega arith)
-b-told b_of.Unknown b_of.Unknown e = refl
-
-pub b-mode-of-one : OneAnswer 0 b-mode-of-k.ps b-mode-of-k.r b-mode-of.Post
-b-mode-of-one κs a x y s t p q = b-told x y (same p q)
+pub b-mode-one : OneAnswer 0 b-mode-k.ps b-mode-k.r b-mode.Post
+b-mode-one κs a x y s t p q = one_answer b_answer (λ w. w.0) (λ w. w.1) (λ _. refl) (λ _. refl) (λ _. refl) x y (p ∙ sym q)

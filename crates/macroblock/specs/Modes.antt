@@ -1,21 +1,16 @@
 -- The numbers of the modes, from 0 in the order of the enums, and what a byte says.
 -- An answer about a byte is read as a number of the replies beside a mode: 0 and the mode that the byte numbers, or 8 and the
 -- first mode where it numbers none.
-use Rattle.std.specs.Prelude.{ℕ, List, [], ◌∷◌, ltb, get_or, length}
+use Rattle.std.specs.Prelude.{ℕ, List, [], ◌∷◌, ltb, get_or, length, Result, Ok, Err}
 use Rattle.lists.specs.Lists.{pick}
-use Rattle.macroblock.specs.Reply.{done, unknown_byte}
+use Rattle.macroblock.specs.Reply.{done, unknown_byte, number}
+use Rattle.macroblock.specs.declared.reply.Refusal.{Refusal}
 use Rattle.macroblock.specs.declared.modes.IntraYMode.{IntraYMode}
 use Rattle.macroblock.specs.declared.modes.IntraYMode.TheVariants as y
 use Rattle.macroblock.specs.declared.modes.IntraUvMode.{IntraUvMode}
 use Rattle.macroblock.specs.declared.modes.IntraUvMode.TheVariants as uv
 use Rattle.macroblock.specs.declared.modes.IntraBmode.{IntraBmode}
 use Rattle.macroblock.specs.declared.modes.IntraBmode.TheVariants as b
-use Rattle.macroblock.specs.declared.numbers.YModeOf.{YModeOf}
-use Rattle.macroblock.specs.declared.numbers.YModeOf.TheVariants as y_of
-use Rattle.macroblock.specs.declared.numbers.UvModeOf.{UvModeOf}
-use Rattle.macroblock.specs.declared.numbers.UvModeOf.TheVariants as uv_of
-use Rattle.macroblock.specs.declared.numbers.BModeOf.{BModeOf}
-use Rattle.macroblock.specs.declared.numbers.BModeOf.TheVariants as b_of
 
 -- ---- the number of a mode
 abbrev pub y_number : IntraYMode → ℕ
@@ -43,18 +38,18 @@ b_number b.Vl = 7
 b_number b.Hd = 8
 b_number b.Hu = 9
 
--- ---- what an answer says: the number of the reply, and the mode
-abbrev pub y_answer : YModeOf → ℕ × IntraYMode
-y_answer (y_of.Mode m) = (done, m)
-y_answer y_of.Unknown = (unknown_byte, y.Dc)
+-- ---- what an answer says: the number of the reply, and the mode, or the first one where it is refused
+abbrev pub y_answer : Result IntraYMode Refusal → ℕ × IntraYMode
+y_answer (Ok m) = (done, m)
+y_answer (Err e) = (number e, y.Dc)
 
-abbrev pub uv_answer : UvModeOf → ℕ × IntraUvMode
-uv_answer (uv_of.Mode m) = (done, m)
-uv_answer uv_of.Unknown = (unknown_byte, uv.Dc)
+abbrev pub uv_answer : Result IntraUvMode Refusal → ℕ × IntraUvMode
+uv_answer (Ok m) = (done, m)
+uv_answer (Err e) = (number e, uv.Dc)
 
-abbrev pub b_answer : BModeOf → ℕ × IntraBmode
-b_answer (b_of.Mode m) = (done, m)
-b_answer b_of.Unknown = (unknown_byte, b.Dc)
+abbrev pub b_answer : Result IntraBmode Refusal → ℕ × IntraBmode
+b_answer (Ok m) = (done, m)
+b_answer (Err e) = (number e, b.Dc)
 
 -- ---- what a byte says: the mode at its place of the list, or the first mode beside 8 where the list has no such place
 unfoldable pub mode_at : {A : Type 0} → A → List A → ℕ → ℕ × A

@@ -6,13 +6,9 @@ mod bytes;
 pub mod filter;
 mod modes;
 mod neighbors;
-mod numbers;
 pub mod reply;
 
-pub use bytes::{all_within, b_mode, b_modes_known, b_reply, uv_mode, uv_reply, y_mode, y_reply};
+pub use bytes::{all_within, b_modes_known};
 pub use modes::{IntraBmode, IntraUvMode, IntraYMode, MbModes};
 pub use neighbors::{ChromaEdges, LumaEdges, MbNeighbors};
-pub use numbers::{
-    BModeOf, UvModeOf, YModeOf, b_mode_number, b_mode_of, uv_mode_number, uv_mode_of,
-    y_mode_number, y_mode_of,
-};
+pub use reply::Refusal;

@@ -11,6 +11,8 @@ ghost use Rattle.lists.specs.Lists.{part};
 ghost use Rattle.macroblock.specs.Neighbors.{no_luma, no_chroma, absent};
 
 // The edges of luma: the row is the top-left pixel, the sixteen above and the four above right.
+// Kept: pixels beside marks, here and in U and V, are the project's form for a neighbour record, and ten of its 81 bytes to C; of the bytes
+// of an absent part the theorems of `rfc6386/proofs/Absent.antt` speak.
 #[derive(Clone, Copy)]
 pub struct LumaEdges {
     pub row: [u8; 21],
@@ -38,30 +40,14 @@ pub struct MbNeighbors {
     pub v: ChromaEdges,
 }
 
-// As many pixels of the row as `to` has, from `at` on.
-fn cut(to: &mut [u8], row: &[u8], at: usize)
-    requires { at + length to.old ≤ length row.now }
-    ensures { to.new ≡ part (length to.old) row.now at }
+// N pixels of a row, after its first.
+fn after_first<const N: usize>(row: &[u8]) -> [u8; N]
+    requires { 1 + N ≤ length row.now }
+    ensures { result ≡ part N row.now 1 }
 {
-    for i in 0..to.len() {
-        to[i] = row[at + i];
-    }
-}
-
-fn sixteen_after(row: [u8; 21]) -> [u8; 16]
-    ensures { result ≡ part 16 row 1 }
-{
-    let mut to = [0u8; 16];
-    cut(&mut to, &row, 1);
-    to
-}
-
-fn eight_after(row: [u8; 9]) -> [u8; 8]
-    ensures { result ≡ part 8 row 1 }
-{
-    let mut to = [0u8; 8];
-    cut(&mut to, &row, 1);
-    to
+    let mut pixels = [0; N];
+    pixels.copy_from_slice(&row[1..1 + N]);
+    pixels
 }
 
 impl LumaEdges {
@@ -70,21 +56,21 @@ impl LumaEdges {
         ensures { result ≡ no_luma }
     {
         Self {
-            row: [0u8; 21],
+            row: [0; 21],
             topleft_there: false,
             above_there: false,
             above_right_there: false,
-            left: [0u8; 16],
+            left: [0; 16],
             left_there: false,
         }
     }
 
+    // Kept: `above` of luma and of chroma are one call each of `after_first`, on two types.
     // The sixteen pixels above.
     pub fn above(self) -> [u8; 16]
         ensures { result ≡ part 16 self.row 1 }
     {
-        let row = self.row;
-        sixteen_after(row)
+        after_first(&self.row)
     }
 }
 
@@ -94,10 +80,10 @@ impl ChromaEdges {
         ensures { result ≡ no_chroma }
     {
         Self {
-            row: [0u8; 9],
+            row: [0; 9],
             topleft_there: false,
             above_there: false,
-            left: [0u8; 8],
+            left: [0; 8],
             left_there: false,
         }
     }
@@ -106,8 +92,7 @@ impl ChromaEdges {
     pub fn above(self) -> [u8; 8]
         ensures { result ≡ part 8 self.row 1 }
     {
-        let row = self.row;
-        eight_after(row)
+        after_first(&self.row)
     }
 }
 
@@ -125,9 +110,10 @@ impl MbNeighbors {
     pub fn absent() -> Self
         ensures { result ≡ absent }
     {
-        let y = LumaEdges::absent();
-        let u = ChromaEdges::absent();
-        let v = ChromaEdges::absent();
-        Self { y, u, v }
+        Self {
+            y: LumaEdges::absent(),
+            u: ChromaEdges::absent(),
+            v: ChromaEdges::absent(),
+        }
     }
 }

@@ -1,7 +1,6 @@
--- Three entries of a table of 128 numbers that are never negative.
+-- An entry of a table of 128 numbers that are never negative.
 use Rattle.std.specs.Prelude.{ℕ, ◌<◌, ◌≡◌, List, ℤ, pos, nat_abs, get_or}
 use Rattle.rfc6386.specs.Quantiser.{clamp_index}
-use Rattle.mb_factors.specs.declared.Entries.{Entries}
 
 -- no entry is negative, and each fits 16 bits with its sign
 pub record Unsigned (table : List ℤ) : Type 0 where
@@ -10,6 +9,3 @@ pub record Unsigned (table : List ℤ) : Type 0 where
 
 unfoldable pub entry_of : List ℤ → ℤ → ℕ
 entry_of table q = nat_abs (get_or table (clamp_index q) (pos 0))
-
-unfoldable pub entries : List ℤ → ℤ → ℤ → ℤ → Entries
-entries table i j k = record { first = entry_of table i; second = entry_of table j; third = entry_of table k }

@@ -1,2 +1,3 @@
-pub mod Puts
+pub mod Told
+pub mod Nine
 pub mod OneAnswer

@@ -1,10 +1,13 @@
 -- The answers over slices: a reply, and what each slice that was lent holds then.
-use Rattle.std.specs.Prelude.{ℕ, List, [], ◌∷◌, Bool, false, ◌&&◌, eqb, ltb, ℤ, length, get_or}
+use Rattle.std.specs.Prelude.{ℕ, List, [], ◌∷◌, Bool, false, ◌&&◌, eqb, ltb, ℤ, length, get_or, Result, Ok, Err}
 use Rattle.lists.specs.Lists.{pick}
+use Rattle.macroblock.specs.Reply.{done, number}
+use Rattle.macroblock.specs.declared.reply.Refusal.{Refusal}
 use Rattle.bool_decoder.specs.BoolCoder.{opened, bit_of}
 use Rattle.bool_decoder.specs.State.{state_of}
 use Rattle.bool_decoder.specs.declared.state.BoolState.{BoolState}
 use Rattle.tokens.specs.Answers.{blank, decoded}
+use Rattle.tokens.specs.Answers as tokens
 use Rattle.tokens.specs.declared.Macroblock.{Macroblock}
 
 -- a state as four numbers, and back
@@ -41,11 +44,17 @@ Answer = ℕ × List ℕ × List ℕ × List ℕ × List ℤ
 abbrev pub answer : ℕ → List ℕ → List ℕ → List ℕ → List ℤ → Answer
 answer r a l s c = (r, a, l, s, c)
 
-unfoldable pub put_answer : Macroblock → List ℕ → List ℕ → List ℕ → Answer
+unfoldable pub put_answer : tokens.Answer → List ℕ → List ℕ → List ℕ → Answer
 put_answer m above left state =
     pick (eqb m.reply 0)
     (answer m.reply (bytes_of m.above) (bytes_of m.left) (numbers_of m.state) m.coeffs)
     (answer m.reply above left state m.coeffs)
+
+-- the same of what `decode_macroblock` answers, told with the contexts and the state that it was handed: a refusal leaves what
+-- was lent as it came, but for the coefficients
+abbrev pub put_told : Result Macroblock Refusal → List ℕ → List ℕ → List ℕ → Answer
+put_told (Ok m) above left state = answer done (bytes_of m.above) (bytes_of m.left) (numbers_of m.state) m.coeffs
+put_told (Err e) above left state = answer (number e) above left state blank
 
 unfoldable pub flagged_answer : List ℕ → List ℕ → ℕ → List ℕ → List ℕ → List ℕ → Answer
 flagged_answer partition probs y2 above left state =

@@ -1,6 +1,7 @@
 -- A stretch of two planes from `at` on, 64 pixels a turn: lane k of turn j is pixel 64 j + k.
 --     squares-turn, raise-turn, count_turn      what a turn with the differences d makes of the sum and of the lanes
 --     squares-fit, lanes-below                  the sum fits 32 bits and a lane's count a byte, up to 255 turns
+--     squares-of, sum-of, largest-of            a lane's list, place by place
 --     raised_all, counted-all                   the lanes together; stretched, the whole answer
 -- Assumes nothing.
 use Prim.Native.Nat.{ℕ, ◌+◌, ◌*◌, ◌<◌, ◌≤◌, max}
@@ -9,7 +10,9 @@ use mathlib.Core.Path.{◌≡◌, refl, ap, ◌∙◌}
 use native.Mathlib.Nat.{mul-one}
 use native.Mathlib.Omega.{arith}
 use lib.Dec.{eqb, lit<}
-use lib.ListN.{get_or}
+use lib.ListN.{length, get_or}
+use Rattle.std.specs.Prelude.{sum, fold}
+use Rattle.std.specs.List.{sum_by}
 use Rattle.lists.specs.Lists.{table, pick, total}
 use Rattle.lists.proofs.Table.{table-length, table_at, table-ext}
 use Rattle.lists.proofs.Each.{each_all}
@@ -17,8 +20,19 @@ use Rattle.plane_distance.specs.Sums.{largest}
 use Rattle.plane_distance.specs.Apart.{apart_at, square_at, same_at, distance_from, raised, counted}
 use Rattle.plane_distance.specs.declared.Distance.{Distance}
 use Rattle.lists.proofs.Total.{total-turn, total-≤, total_ext, total-add}
-use Rattle.plane_distance.proofs.Totals.{largest-turn, largest-ext, total-lanes, largest-lanes}
+use Rattle.plane_distance.proofs.Totals.{largest-turn, largest-ext, sum_by-total, fold-largest, total-lanes, largest-lanes}
 use Rattle.plane_distance.proofs.Pixels.{Bytes, same-apart, same-≤, square-≤}
+
+-- a lane's list, as its places
+module _ (l : List ℕ) (e : length l ≡ 64) where
+  pub squares-of : sum_by (λ g. g * g) l ≡ total 64 (λ k. get_or l k 0 * get_or l k 0)
+  squares-of = sum_by-total (λ g. g * g) l ∙ ap (λ (n : ℕ). total n (λ k. get_or l k 0 * get_or l k 0)) e
+
+  pub sum-of : sum l ≡ total 64 (λ k. get_or l k 0)
+  sum-of = sum_by-total (λ g. g) l ∙ ap (λ (n : ℕ). total n (λ k. get_or l k 0)) e
+
+  pub largest-of : fold max 0 l ≡ largest 64 (λ k. get_or l k 0)
+  largest-of = fold-largest 0 l ∙ rw e (omega arith)
 
 module _ (a b : List ℕ) (at : ℕ) where
   -- the first t turns of lane k

@@ -1,5 +1,5 @@
 -- Two parts of a plane are the whole; no sum of a plane passes 64 bits; and what the test of the lengths says. Assumes nothing.
-use Prim.Native.Nat.{ℕ, ◌+◌, ◌*◌, ◌%◌, ◌≤◌, max}
+use Prim.Native.Nat.{ℕ, ◌+◌, ◌*◌, ◌%◌, ◌≤◌, max, min}
 use mathlib.Core.Bool.{true, false}
 use mathlib.Core.List.{List}
 use mathlib.Core.Path.{◌≡◌, sym, ap, ◌∙◌}
@@ -10,7 +10,8 @@ use lib.Dec.{eqb, leb}
 use Rattle.lists.specs.Lists.{both, total}
 use Rattle.lists.proofs.Tests.{left-holds, right-holds}
 use Rattle.plane_distance.specs.Sums.{largest}
-use Rattle.plane_distance.specs.Apart.{apart_at, square_at, same_at, distance_from, together, comparable}
+use Rattle.plane_distance.specs.Apart.{apart_at, square_at, same_at, distance_from, together, together_held, comparable}
+use Rattle.plane_distance.specs.declared.Distance.{Distance}
 use Rattle.lists.proofs.Total.{total-≤, total_ext, total-add}
 use Rattle.plane_distance.proofs.Totals.{largest-ext, largest-add}
 use Rattle.plane_distance.proofs.Pixels.{Bytes, same-≤, square-≤}
@@ -41,6 +42,13 @@ module _ (a b : List ℕ) where
   pub squares-≤ : Bytes a → Bytes b → (at n : ℕ) → (distance_from a b at n).squares ≤ n * 65025
   unfolding distance_from
   squares-≤ p q at n = total-≤ 65025 n (λ i. square_at a b (at + i)) (λ i h. square-≤ a b (at + i) p q)
+
+-- ---- sums that fit 64 bits
+pub together-fits : (x y : Distance) → x.squares + y.squares ≤ 18446744073709551615 → x.equal + y.equal ≤ 18446744073709551615 → together_held x y ≡ together x y
+together-fits x y s e =
+    let f : min (x.squares + y.squares) 18446744073709551615 ≡ x.squares + y.squares = omega (arith, s) in
+    let g : min (x.equal + y.equal) 18446744073709551615 ≡ x.equal + y.equal = omega (arith, e) in
+    rw (f, g)
 
 -- ---- the lengths
 pub record Comparable (m n : ℕ) : Type 0 where

@@ -4,9 +4,14 @@
 --     largest-ext                   rules that agree
 --     largest-add                   in two parts
 --     total-all                     every number the same
+--     sum_by-total, fold-largest    a list's sum and its largest number, place by place
 --     total-lanes, largest-lanes    lane by lane: w lanes of h, number j of lane k being number w j + k of all
 -- Assumes nothing.
-use mathlib.Core.Path.{◌≡◌, refl, ◌∙◌}
+use mathlib.Core.Path.{◌≡◌, refl, sym, ap, ◌∙◌}
+use mathlib.Core.List.{List, [], ◌∷◌}
+use lib.ListN.{length, get_or}
+use Rattle.std.specs.List.{sum_by, fold}
+use Rattle.std.proofs.lemmas.List.Sums.{sum_by-cons}
 use mathlib.Core.Logic.{⊎_elim}
 use Prim.Native.Nat.{ℕ, zero, suc, ◌+◌, ◌*◌, ◌/◌, ◌%◌, ◌<◌, ◌≤◌, max}
 use native.Mathlib.Nat.{add-zero, add-suc, suc-mul, mul-suc, mul-zero, mul_comm, le_antisymm, eq-or-lt_of_le, le_of_suc-le-suc, mul-le-mul_left, div-add-mod, mod-lt, div-lt_iff_lt-mul}
@@ -56,6 +61,29 @@ pub total-all : (m n : ℕ) (f : ℕ → ℕ) → ((i : ℕ) → i < n → f i �
 unfolding total
 total-all m zero f h = omega arith
 total-all m (suc n) f h = omega (arith, total-all m n f (λ i l. h i (omega arith)), h n (omega arith), suc-mul n m)
+
+-- ---- a list, place by place: its first number before the others
+total-front : (n : ℕ) (f : ℕ → ℕ) → total (suc n) f ≡ f 0 + total n (λ k. f (suc k))
+unfolding total
+total-front zero f = omega arith
+total-front (suc n) f = omega (arith, total-front n f)
+
+largest-front : (n : ℕ) (f : ℕ → ℕ) → largest (suc n) f ≡ max (f 0) (largest n (λ k. f (suc k)))
+unfolding largest
+largest-front zero f = omega arith
+largest-front (suc n) f = omega (arith, largest-front n f)
+
+pub sum_by-total : (f : ℕ → ℕ) (xs : List ℕ) → sum_by f xs ≡ total (length xs) (λ k. f (get_or xs k 0))
+unfolding total
+sum_by-total f [] = refl
+sum_by-total f (x ∷ xs) =
+    sum_by-cons f x xs ∙ ap (λ (n : ℕ). f x + n) (sum_by-total f xs) ∙ sym (total-front (length xs) (λ k. f (get_or (x ∷ xs) k 0)))
+
+pub fold-largest : (h : ℕ) (xs : List ℕ) → fold max h xs ≡ max h (largest (length xs) (λ k. get_or xs k 0))
+unfolding largest
+fold-largest h [] = omega arith
+fold-largest h (x ∷ xs) =
+    omega (arith, fold-largest (max h x) xs, largest-front (length xs) (λ k. get_or (x ∷ xs) k 0))
 
 -- ---- lane by lane
 total-none : (n : ℕ) → total n (λ i. 0) ≡ 0

@@ -2,9 +2,9 @@
 --     apart            the difference of two pixels, without its sign
 --     apart_at          that of the pixels at place i; square_at, its square; same_at, 1 where it is 0
 --     distance_from     over n places from `at` on: the sum of squares, the largest difference, the number of equal pixels
---     together         of two parts
+--     together         of two parts; together_held, where a sum that passes 64 bits is held at the largest number
 --     plane_distance    of two luma planes of equally many macroblocks
-use Rattle.std.specs.Prelude.{ℕ, ◌+◌, ◌*◌, ◌-◌, ◌%◌, max, Bool, List, eqb, leb, length, get_or, set}
+use Rattle.std.specs.Prelude.{ℕ, ◌+◌, ◌*◌, ◌-◌, ◌%◌, max, min, Bool, List, eqb, leb, length, get_or, set}
 use Rattle.lists.specs.Lists.{turns, pick, both, total}
 use Rattle.plane_distance.specs.Sums.{largest}
 use Rattle.plane_distance.specs.declared.Distance.{Distance}
@@ -35,6 +35,14 @@ module _ (a b : List ℕ) where
 abbrev pub together : Distance → Distance → Distance
 together x y =
     record { squares = x.squares + y.squares; largest = max x.largest y.largest; equal = x.equal + y.equal }
+
+abbrev pub together_held : Distance → Distance → Distance
+together_held x y =
+    record {
+      squares = min (x.squares + y.squares) 18446744073709551615;
+      largest = max x.largest y.largest;
+      equal = min (x.equal + y.equal) 18446744073709551615;
+    }
 
 -- ---- 64 lanes: what a turn with the differences d makes of the largest so far, and of the numbers of equal pixels so far
 unfoldable pub raised : List ℕ → List ℕ → List ℕ

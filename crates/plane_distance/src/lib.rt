@@ -8,114 +8,90 @@
 //      equal      k k k k k k k k      how many of each lane were equal so far, in a byte: so 255 turns a stretch at most
 #![tactic(auto)]
 
-ghost use Rattle.std.specs.Prelude.{◌≡◌, true, ℕ, ◌+◌, ◌*◌, ◌<◌, ◌≤◌, max, min, eqb, length, get_or, replicate};
-ghost use Rattle.lists.specs.Lists.{table, pick, total};
-ghost use Rattle.plane_distance.specs.Sums.{largest};
-ghost use Rattle.plane_distance.specs.Apart.{apart, apart_at, raised, counted, distance_from, together, comparable, no_distance, plane_distance};
+ghost use Rattle.std.specs.Prelude.{◌≡◌, true, ℕ, ◌+◌, ◌*◌, ◌<◌, ◌≤◌, ◌^◌, max, length, get_or, fold, sum};
+ghost use Rattle.std.specs.List.{sum_by};
+ghost use Rattle.lists.specs.Lists.{table};
+ghost use Rattle.plane_distance.specs.Apart.{apart_at, raised, counted, distance_from, together_held, comparable, no_distance, plane_distance};
 
-#[derive(Clone, Copy)]
+use std::array;
+
+#[derive(Clone, Copy, Debug, PartialEq, Eq)]
 pub struct Distance {
     pub squares: u64,
     pub largest: u64,
     pub equal: u64,
 }
 
-// The difference of two pixels, without its sign.
-fn gap(x: u8, y: u8) -> u8
-    ensures { result ≡ apart x y }
+impl Distance {
+    // Of no pixels.
+    pub fn none() -> Distance
+        ensures { result ≡ no_distance }
+    {
+        Distance {
+            squares: 0,
+            largest: 0,
+            equal: 0,
+        }
+    }
+
+    // Of two parts of a plane; a sum that passes 64 bits is held at the largest number.
+    pub fn together(self, other: Distance) -> Distance
+        ensures { result ≡ together_held self other }
+    {
+        Distance {
+            squares: self.squares.saturating_add(other.squares),
+            largest: self.largest.max(other.largest),
+            equal: self.equal.saturating_add(other.equal),
+        }
+    }
+}
+
+// ---- a turn
+fn gaps(a: &[u8], b: &[u8], at: usize) -> [u8; 64]
+    requires { (at + 64 ≤ length a.now) × (at + 64 ≤ length b.now) }
+    ensures { result ≡ table 64 (λ k. apart_at a.now b.now (at + k)) }
 {
-    if x < y { y - x } else { x - y }
+    array::from_fn(|k| a[at + k].abs_diff(b[at + k]))
 }
 
 fn square(g: u8) -> u32
     ensures { (result ≡ g * g) × (result ≤ 65025) }
 {
-    (g as u32) * (g as u32)
-}
-
-fn larger(x: u8, y: u8) -> u8
-    ensures { result ≡ max x y }
-{
-    if x < y { y } else { x }
-}
-
-// 1 where there is no difference.
-fn no_gap(g: u8) -> u8
-    ensures { result ≡ pick (eqb g 0) 1 0 }
-{
-    if g == 0 { 1 } else { 0 }
-}
-
-// ---- a turn
-fn zeros() -> [u8; 64]
-    ensures { result ≡ replicate 64 0 }
-{
-    [0u8; 64]
-}
-
-fn gaps(a: &[u8], b: &[u8], at: usize) -> [u8; 64]
-    requires { (at + 64 ≤ length a.now) × (at + 64 ≤ length b.now) }
-    ensures { result ≡ table 64 (λ k. apart_at a.now b.now (at + k)) }
-{
-    let mut d = zeros();
-    for k in 0..64 {
-        d[k] = gap(a[at + k], b[at + k]);
-    }
-    d
+    u32::from(g) * u32::from(g)
 }
 
 fn squares(d: &[u8; 64]) -> u32
-    ensures { result ≡ total 64 (λ k. get_or d.now k 0 * get_or d.now k 0) }
+    requires { sum_by (λ g. g * g) d.now < 2 ^ 32 }
+    ensures { result ≡ sum_by (λ g. g * g) d.now }
 {
-    let mut s = 0u32;
-    for k in 0..64 {
-        s = s + square(d[k]);
-    }
-    s
+    d.iter().map(|&g| square(g)).sum()
 }
 
-fn raise(m: &mut [u8; 64], d: &[u8; 64])
-    ensures { m.new ≡ raised d.now m.old }
+// The largest of each lane, and how many of each were equal, with a turn more.
+fn raised(m: &[u8; 64], d: &[u8; 64]) -> [u8; 64]
+    ensures { result ≡ raised d.now m.now }
 {
-    for k in 0..64 {
-        m[k] = larger(m[k], d[k]);
-    }
+    array::from_fn(|k| m[k].max(d[k]))
 }
 
-fn count(n: &mut [u8; 64], d: &[u8; 64])
-    requires { (k : ℕ) → k < 64 → get_or n.old k 0 < 255 }
-    ensures { n.new ≡ counted d.now n.old }
+fn counted(n: &[u8; 64], d: &[u8; 64]) -> [u8; 64]
+    requires { (k : ℕ) → k < 64 → get_or n.now k 0 < 255 }
+    ensures { result ≡ counted d.now n.now }
 {
-    for k in 0..64 {
-        n[k] = n[k] + no_gap(d[k]);
-    }
+    array::from_fn(|k| n[k] + u8::from(d[k] == 0))
 }
 
 // ---- the lanes together
-fn wide(x: u8) -> u32
-    ensures { (result ≡ x) × (result ≤ 255) }
-{
-    x as u32
-}
-
 fn highest(m: &[u8; 64]) -> u8
-    ensures { result ≡ largest 64 (λ k. get_or m.now k 0) }
+    ensures { result ≡ fold max 0 m.now }
 {
-    let mut h = 0u8;
-    for k in 0..64 {
-        h = larger(h, m[k]);
-    }
-    h
+    m.iter().fold(0, |h, &g| h.max(g))
 }
 
-fn counted(n: &[u8; 64]) -> u32
-    ensures { result ≡ total 64 (λ k. get_or n.now k 0) }
+fn all_of(n: &[u8; 64]) -> u32
+    ensures { result ≡ sum n.now }
 {
-    let mut s = 0u32;
-    for k in 0..64 {
-        s = s + wide(n[k]);
-    }
-    s
+    n.iter().map(|&k| u32::from(k)).sum()
 }
 
 // ---- a stretch of both planes
@@ -123,55 +99,20 @@ fn stretch(a: &[u8], b: &[u8], at: usize, turns: usize) -> Distance
     requires { (turns ≤ 255) × (at + 64 * turns ≤ length a.now) × (at + 64 * turns ≤ length b.now) }
     ensures { result ≡ distance_from a.now b.now at (64 * turns) }
 {
-    let mut s = 0u32;
-    let mut m = zeros();
-    let mut n = zeros();
+    let mut s = 0;
+    let mut m = [0; 64];
+    let mut n = [0; 64];
+    // Kept: two planes at one moving place; chunks of both at once are no plainer.
     for t in 0..turns {
         let d = gaps(a, b, at + 64 * t);
-        s = s + squares(&d);
-        raise(&mut m, &d);
-        count(&mut n, &d);
+        s += squares(&d);
+        m = raised(&m, &d);
+        n = counted(&n, &d);
     }
-    let largest = highest(&m) as u64;
-    let equal = counted(&n) as u64;
     Distance {
-        squares: s as u64,
-        largest: largest,
-        equal: equal,
-    }
-}
-
-fn at_most_255(n: usize) -> usize
-    ensures { result ≡ min n 255 }
-{
-    if n < 255 { n } else { 255 }
-}
-
-fn larger_of(x: u64, y: u64) -> u64
-    ensures { result ≡ max x y }
-{
-    if x < y { y } else { x }
-}
-
-fn nothing() -> Distance
-    ensures { result ≡ no_distance }
-{
-    Distance {
-        squares: 0,
-        largest: 0,
-        equal: 0,
-    }
-}
-
-// Two parts of a plane.
-fn together(x: Distance, y: Distance) -> Distance
-    requires { (x.squares + y.squares < 18446744073709551616) × (x.equal + y.equal < 18446744073709551616) }
-    ensures { result ≡ together x y }
-{
-    Distance {
-        squares: x.squares + y.squares,
-        largest: larger_of(x.largest, y.largest),
-        equal: x.equal + y.equal,
+        squares: u64::from(s),
+        largest: u64::from(highest(&m)),
+        equal: u64::from(all_of(&n)),
     }
 }
 
@@ -179,13 +120,12 @@ fn over_all(a: &[u8], b: &[u8]) -> Distance
     requires { comparable (length a.now) (length b.now) ≡ true }
     ensures { result ≡ distance_from a.now b.now 0 (length a.now) }
 {
-    let n = a.len();
-    let mut sum = nothing();
-    let mut at = 0;
-    while at < n {
-        let turns = at_most_255((n - at) / 64);
-        sum = together(sum, stretch(a, b, at, turns));
-        at = at + 64 * turns;
+    let mut sum = Distance::none();
+    // Kept: no plainer, since a part is two slices from one place on.
+    for part in 0..a.len().div_ceil(16320) {
+        let at = 16320 * part;
+        let turns = ((a.len() - at) / 64).min(255);
+        sum = sum.together(stretch(a, b, at, turns));
     }
     sum
 }
@@ -193,13 +133,7 @@ fn over_all(a: &[u8], b: &[u8]) -> Distance
 fn comparable(m: usize, n: usize) -> bool
     ensures { result ≡ comparable m n }
 {
-    if m != n {
-        return false;
-    }
-    if m % 256 != 0 {
-        return false;
-    }
-    m <= 268435456
+    m == n && m % 256 == 0 && m <= 268435456
 }
 
 // The distance of two luma planes of equally many macroblocks of 256 pixels, at most 1,024 by 1,024; zeros for any others.
@@ -207,7 +141,7 @@ pub fn plane_distance(drawn: &[u8], measured: &[u8]) -> Distance
     ensures { result ≡ plane_distance drawn.now measured.now }
 {
     if !comparable(drawn.len(), measured.len()) {
-        return nothing();
+        return Distance::none();
     }
     over_all(drawn, measured)
 }

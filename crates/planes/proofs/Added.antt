@@ -17,7 +17,7 @@ use Rattle.blocks.specs.Taken.{residues_from}
 use Rattle.blocks.proofs.Places.{residues-at}
 use Rattle.clipping.specs.Clipped.{over, blocks_clipped}
 use Rattle.lists.proofs.Total.{total_ext, total-flat}
-use Rattle.planes.specs.Steps.{group_added, row_added, group_clipped, row_clipped}
+use Rattle.planes.specs.Steps.{run_added, run_clipped, group_added, row_added, group_clipped, row_clipped}
 use Rattle.planes.proofs.Seeded.{row_of, seeded-residue}
 
 module _ (coeffs : List ℤ) (p : List ℕ) where
@@ -25,12 +25,13 @@ module _ (coeffs : List ℤ) (p : List ℕ) where
   flat : ℕ → ℕ
   flat n = sum (get_or p n 0) (get_or (idct_four (row_of coeffs (n / 64))) (n % 64) (pos 0))
 
-  by-group : (i k : ℕ) → i < 4 → k < 64 → sum (get_or p (i * 64 + k) 0) (get_or (idct_four (row_of coeffs i)) k (pos 0)) ≡ flat (i * 64 + k)
+  by-group : (i k : ℕ) → i < 4 → k < 64 → sum (get_or p (i * 64 + k) 0) (get_or (idct_four (row_of coeffs i)) (0 + k) (pos 0)) ≡ flat (i * 64 + k)
   unfolding flat
   by-group i k hi hk =
       let q : (i * 64 + k) / 64 ≡ i = omega arith in
       let m : (i * 64 + k) % 64 ≡ k = omega arith in
-      rw (q, m)
+      let z : 0 + k ≡ k = omega arith in
+      rw (q, m, z)
 
   by_row : (r c : ℕ) → r < 16 → c < 16 → sum (get_or p (r * 16 + c) 0) (residue (seeded coeffs (4 * (r / 4) + c / 4)) (r % 4) (c % 4)) ≡ flat (r * 16 + c)
   unfolding flat
@@ -40,14 +41,14 @@ module _ (coeffs : List ℤ) (p : List ℕ) where
       rw (q, m, seeded-residue coeffs (r / 4) (omega arith) (r % 4) c (omega arith) hc)
 
   pub luma-added : length p ≡ 256 → turns 4 (λ i. group_added (idct_four (row_of coeffs i)) i) p ≡ added_blocks 16 p (seeded coeffs)
-  unfolding group_added added_blocks
+  unfolding run_added added_blocks
   luma-added e =
-      rows-each 0 64 4 (λ i k x. sum x (get_or (idct_four (row_of coeffs i)) k (pos 0))) p (lit< tt) e
+      rows-each 0 64 4 (λ i k x. sum x (get_or (idct_four (row_of coeffs i)) (0 + k) (pos 0))) p (lit< tt) e
       ∙ rows-flat 64 4 _ flat by-group
       ∙ sym (rows-flat 16 16 _ flat by_row)
 
   pub chroma-added : (base : ℕ) → length p ≡ 64 → turns 8 (row_added (residues_from coeffs base)) p ≡ added_blocks 8 p (block_at coeffs base)
-  unfolding row_added added_blocks
+  unfolding run_added added_blocks
   chroma-added base e =
       rows-each 0 8 8 (λ r c x. sum x (get_or (residues_from coeffs base) (16 * (r % 4) + 8 * (r / 4) + c) (pos 0))) p (lit< tt) e
       ∙ rows_ext 8 8 _ _ λ r c l k.
@@ -59,12 +60,13 @@ module _ (coeffs : List ℤ) (p : List ℕ) where
   flat-over : ℕ → ℕ
   flat-over n = over (get_or p n 0) (get_or (idct_four (row_of coeffs (n / 64))) (n % 64) (pos 0))
 
-  over-group : (i k : ℕ) → i < 4 → k < 64 → over (get_or p (i * 64 + k) 0) (get_or (idct_four (row_of coeffs i)) k (pos 0)) ≡ flat-over (i * 64 + k)
+  over-group : (i k : ℕ) → i < 4 → k < 64 → over (get_or p (i * 64 + k) 0) (get_or (idct_four (row_of coeffs i)) (0 + k) (pos 0)) ≡ flat-over (i * 64 + k)
   unfolding flat-over
   over-group i k hi hk =
       let q : (i * 64 + k) / 64 ≡ i = omega arith in
       let m : (i * 64 + k) % 64 ≡ k = omega arith in
-      rw (q, m)
+      let z : 0 + k ≡ k = omega arith in
+      rw (q, m, z)
 
   over-row : (r c : ℕ) → r < 16 → c < 16 → over (get_or p (r * 16 + c) 0) (residue (seeded coeffs (4 * (r / 4) + c / 4)) (r % 4) (c % 4)) ≡ flat-over (r * 16 + c)
   unfolding flat-over
@@ -74,11 +76,11 @@ module _ (coeffs : List ℤ) (p : List ℕ) where
       rw (q, m, seeded-residue coeffs (r / 4) (omega arith) (r % 4) c (omega arith) hc)
 
   pub luma-clipped : total 4 (λ i. group_clipped p (idct_four (row_of coeffs i)) i) ≡ blocks_clipped 16 p (seeded coeffs)
-  unfolding group_clipped blocks_clipped
+  unfolding run_clipped blocks_clipped
   luma-clipped = total-flat 64 4 _ flat-over over-group ∙ sym (total-flat 16 16 _ flat-over over-row)
 
   pub chroma-clipped : (base : ℕ) → total 8 (row_clipped p (residues_from coeffs base)) ≡ blocks_clipped 8 p (block_at coeffs base)
-  unfolding row_clipped blocks_clipped
+  unfolding run_clipped blocks_clipped
   chroma-clipped base =
       total_ext 8 _ _ λ r l.
       total_ext 8 _ _ λ c k.

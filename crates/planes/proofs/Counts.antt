@@ -1,15 +1,14 @@
--- At most 64 sums of a luma block row are outside, and 8 of a chroma row. Assumes nothing.
-use Prim.Native.Nat.{ℕ, ◌≤◌}
+-- At most n sums of a run of n are outside. Assumes nothing.
+use Prim.Native.Nat.{ℕ, ◌+◌, ◌≤◌}
 use mathlib.Core.List.{List}
-use lib.IntN.{ℤ}
+use native.Mathlib.Omega.{arith}
+use lib.IntN.{ℤ, pos}
+use lib.ListN.{get_or}
 use Rattle.lists.proofs.Total.{total-≤}
+use Rattle.clipping.specs.Clipped.{over}
 use Rattle.clipping.proofs.Counted.{over-≤}
-use Rattle.planes.specs.Steps.{group_clipped, row_clipped}
+use Rattle.planes.specs.Steps.{run_clipped}
 
-pub group-≤ : (px : List ℕ) (o : List ℤ) (i : ℕ) → group_clipped px o i ≤ 64
-unfolding group_clipped
-group-≤ px o i = total-≤ 1 64 _ λ k l. over-≤ _ _
-
-pub row-≤ : (px : List ℕ) (o : List ℤ) (r : ℕ) → row_clipped px o r ≤ 8
-unfolding row_clipped
-row-≤ px o r = total-≤ 1 8 _ λ c l. over-≤ _ _
+pub run-≤ : (px : List ℕ) (o : List ℤ) (at start n : ℕ) → run_clipped px o at start n ≤ n
+unfolding run_clipped
+run-≤ px o at start n = let h = total-≤ 1 n (λ k. over (get_or px (at + k) 0) (get_or o (start + k) (pos 0))) (λ k l. over-≤ (get_or px (at + k) 0) (get_or o (start + k) (pos 0))) in omega (arith, h)

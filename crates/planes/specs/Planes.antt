@@ -6,21 +6,19 @@ use Rattle.macroblock.specs.declared.neighbors.LumaEdges.{LumaEdges}
 use Rattle.macroblock.specs.declared.neighbors.ChromaEdges.{ChromaEdges}
 use Rattle.rfc6386.specs.Walk.{block_at, seeded, plane, y_whole, uv_plane}
 use Rattle.clipping.specs.Clipped.{plane_clipped, y_whole_clipped, uv_clipped}
-use Rattle.planes.specs.declared.luma.LumaPlane.{LumaPlane}
-use Rattle.planes.specs.declared.chroma.ChromaPlane.{ChromaPlane}
 
 -- from a prediction
-unfoldable pub luma_coded : List ℕ → List ℤ → LumaPlane
+unfoldable pub luma_coded : List ℕ → List ℤ → List ℕ × ℕ
 luma_coded prediction coeffs =
-    record { pixels = plane 16 false prediction (seeded coeffs); clipped = plane_clipped 16 false prediction (seeded coeffs) }
+    (plane 16 false prediction (seeded coeffs), plane_clipped 16 false prediction (seeded coeffs))
 
-unfoldable pub chroma_of : List ℕ → Bool → List ℤ → ℕ → ChromaPlane
+unfoldable pub chroma_of : List ℕ → Bool → List ℤ → ℕ → List ℕ × ℕ
 chroma_of prediction skip coeffs base =
-    record { pixels = plane 8 skip prediction (block_at coeffs base); clipped = plane_clipped 8 skip prediction (block_at coeffs base) }
+    (plane 8 skip prediction (block_at coeffs base), plane_clipped 8 skip prediction (block_at coeffs base))
 
 -- of a macroblock
-unfoldable pub y_drawn : IntraYMode → Bool → LumaEdges → List ℤ → LumaPlane
-y_drawn mode skip e coeffs = record { pixels = y_whole mode skip e coeffs; clipped = y_whole_clipped mode skip e coeffs }
+unfoldable pub y_drawn : IntraYMode → Bool → LumaEdges → List ℤ → List ℕ × ℕ
+y_drawn mode skip e coeffs = (y_whole mode skip e coeffs, y_whole_clipped mode skip e coeffs)
 
-unfoldable pub uv_drawn : IntraUvMode → Bool → ChromaEdges → List ℤ → ℕ → ChromaPlane
-uv_drawn mode skip e coeffs base = record { pixels = uv_plane mode skip e coeffs base; clipped = uv_clipped mode skip e coeffs base }
+unfoldable pub uv_drawn : IntraUvMode → Bool → ChromaEdges → List ℤ → ℕ → List ℕ × ℕ
+uv_drawn mode skip e coeffs base = (uv_plane mode skip e coeffs base, uv_clipped mode skip e coeffs base)

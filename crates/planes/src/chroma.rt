@@ -8,96 +8,69 @@
 //                          2 2 3 3
 ghost use Rattle.std.specs.Prelude.{◌≡◌, ◌<◌};
 ghost use Rattle.lists.specs.Lists.{turns, total};
-ghost use Rattle.planes.specs.Steps.{row_added, row_clipped};
+ghost use Rattle.planes.specs.Steps.{residues_at, row_added, row_clipped};
 ghost use Rattle.planes.specs.Planes.{chroma_of, uv_drawn};
 
+use crate::run::{add_run, run_clipped};
 use macroblock::{ChromaEdges, IntraUvMode, MbNeighbors};
 
-// The pixels of U or V, and how many sums were below 0 or above 255.
-#[derive(Clone, Copy)]
-pub struct ChromaPlane {
-    pub pixels: [u8; 64],
-    pub clipped: u32,
-}
-
-fn add_row(px: &mut [u8; 64], r: usize, o: [i16; 64])
+// Where the residues of row r begin.
+fn residues_at(r: usize) -> usize
     requires { r < 8 }
-    ensures { px.new ≡ row_added o r px.old }
+    ensures { result ≡ residues_at r }
 {
-    let from = 16 * (r % 4) + 8 * (r / 4);
-    for c in 0..8 {
-        px[r * 8 + c] = residue::sum(px[r * 8 + c], o[from + c]);
-    }
+    16 * (r % 4) + 8 * (r / 4)
 }
 
-fn add_blocks(px: &mut [u8; 64], o: [i16; 64])
-    ensures { px.new ≡ turns 8 (row_added o) px.old }
+fn add_blocks(px: &mut [u8; 64], o: &[i16; 64])
+    ensures { px.new ≡ turns 8 (row_added o.now) px.old }
 {
+    // Kept: no plainer: r is the row, whose pixels and residues lie at two places.
     for r in 0..8 {
-        add_row(px, r, o);
+        add_run(px, r * 8, o, residues_at(r), 8);
     }
-}
-
-// How many sums of row r are outside 0 and 255.
-fn row_clipped(px: &[u8; 64], r: usize, o: &[i16; 64]) -> u32
-    requires { r < 8 }
-    ensures { result ≡ row_clipped px.now o.now r }
-{
-    let start = 16 * (r % 4) + 8 * (r / 4);
-    let mut n = 0u32;
-    for c in 0..8 {
-        n = n + clipping::over(px[r * 8 + c], o[start + c]);
-    }
-    n
 }
 
 fn clipped(px: &[u8; 64], o: &[i16; 64]) -> u32
     ensures { result ≡ total 8 (row_clipped px.now o.now) }
 {
     let mut n = 0u32;
+    // Kept: no plainer, as in the row above.
     for r in 0..8 {
-        n = n + row_clipped(px, r, o);
+        n += run_clipped(px, r * 8, o, residues_at(r), 8);
     }
     n
 }
 
-fn plane(prediction: [u8; 64], skip: bool, coeffs: &[i16], base: usize) -> ChromaPlane
+fn plane(prediction: [u8; 64], skip: bool, coeffs: &[i16], base: usize) -> ([u8; 64], u32)
     ensures { result ≡ chroma_of prediction skip coeffs.now base }
 {
     if skip {
-        return ChromaPlane {
-            pixels: prediction,
-            clipped: 0,
-        };
+        return (prediction, 0);
     }
     let o = blocks::residues(coeffs, base);
     let n = clipped(&prediction, &o);
     let mut px = prediction;
-    add_blocks(&mut px, o);
-    ChromaPlane {
-        pixels: px,
-        clipped: n,
-    }
+    add_blocks(&mut px, &o);
+    (px, n)
 }
 
-// U or V, from its four blocks of coefficients from `base` on.
+// U or V, from its four blocks of coefficients from `base` on. Beside it, how many sums were below 0 or above 255.
 pub fn uv_plane(
     mode: IntraUvMode,
     skip: bool,
     edges: ChromaEdges,
     coeffs: &[i16],
     base: usize,
-) -> ChromaPlane
+) -> ([u8; 64], u32)
     ensures { result ≡ uv_drawn mode skip edges coeffs.now base }
 {
-    let row = edges.row;
-    let left = edges.left;
-    let p = intra_edges::pixel_or(MbNeighbors::ABOVE, row[0], edges.topleft_there);
+    let p = intra_edges::pixel_or(MbNeighbors::ABOVE, edges.row[0], edges.topleft_there);
     let prediction = intra_predict::predict_uv8x8(
         mode,
         edges.above(),
         edges.above_there,
-        left,
+        edges.left,
         edges.left_there,
         p,
     );

@@ -4,6 +4,7 @@
 
 mod chroma;
 mod luma;
+mod run;
 
-pub use chroma::{ChromaPlane, uv_plane};
-pub use luma::{LumaPlane, y_whole};
+pub use chroma::uv_plane;
+pub use luma::y_whole;

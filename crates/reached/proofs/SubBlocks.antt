@@ -26,8 +26,7 @@ use Rattle.rfc6386.specs.Residue.{sum}
 use Rattle.rfc6386.specs.Edges.{edge_or, pixel_or, left_or}
 use Rattle.rfc6386.specs.Subblock.{sub_he, sub_ve, sub_ld, sub_pixel, predict_b}
 use Rattle.rfc6386.specs.Walk.{laid, blank, copied_down, bordered, row_or, start_of, above_in, left_in, top_left_in, sub_prediction, sub_pixels, put_block, sub_block, walked, luma_of, y_parts}
-use Rattle.reconstruct.specs.Answers.{parts_of, walk_b}
-use Rattle.reconstruct.specs.declared.ReconstructedMb.{ReconstructedMb}
+use Rattle.reconstruct.specs.Answers.{MbAnswer, parts_of, walk_b}
 use Rattle.walker_laws.specs.Around.{place_in, sub_of}
 use Rattle.walker_laws.specs.Moves.{Untouched, SameButSub}
 use Rattle.walker_laws.proofs.Laid.{below}
@@ -77,7 +76,7 @@ only-length : (k x : ℕ) → k < 16 → length (only k x) ≡ 384
 only-length k x h = simp (length-append, length-replicate) (omega arith)
 
 module _ (m : MbModes) (coded : m.skip ≡ false) (k : ℕ) (hk : k < 16) where
-  abbrev call : ℕ → ReconstructedMb
+  abbrev call : ℕ → MbAnswer
   call x = walk_b (modes_for k) true m absent (only k x)
 
   call-is : (x : ℕ) → call x ≡ parts_of (modes_for k) m.uv false absent (only k x)
@@ -86,11 +85,11 @@ module _ (m : MbModes) (coded : m.skip ≡ false) (k : ℕ) (hk : k < 16) where
 
   pub example-calls : ((call 0).reply ≡ done) × ((call 800).reply ≡ done) × SameButSub k (only k 0) (only k 800)
   unfolding parts_of
-  example-calls = (ap (λ (r : ReconstructedMb). r.reply) (call-is 0), ap (λ (r : ReconstructedMb). r.reply) (call-is 800), only-differ k)
+  example-calls = (ap (λ (r : MbAnswer). r.reply) (call-is 0), ap (λ (r : MbAnswer). r.reply) (call-is 800), only-differ k)
 
   call-y : (x : ℕ) → (call x).y ≡ drawn k x
   unfolding parts_of absent
-  call-y x = ap (λ (r : ReconstructedMb). r.y) (call-is x)
+  call-y x = ap (λ (r : MbAnswer). r.y) (call-is x)
 
   grows : (j : ℕ) → j < 16 → grown (drawn k 0) (drawn k 800) j ≡ reach k j
   grows j h = table-agree 16 (grown (drawn k 0) (drawn k 800)) (reach k) (table-agree 16 moves (λ k. table 16 (reach k)) moved k hk) j h

@@ -12,6 +12,7 @@ pub fn read_full(input: &mut impl Read, buf: &mut [u8]) -> io::Result<usize>
     ensures { IfOk result (λ n. n ≤ length buf.new) }
 {
     let mut done = 0;
+    // Kept: no plainer: a read may end early, and the number of turns is what makes the loop end.
     for _ in 0..buf.len() {
         let n = input.read(&mut buf[done..])?;
         if n == 0 {

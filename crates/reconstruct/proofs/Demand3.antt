@@ -19,8 +19,7 @@ use Rattle.rfc6386.specs.Walk.{block_at, seeded, plane, y_prediction, uv_predict
 use Rattle.rfc6386.specs.Exact.{Within, exact_pixel}
 use Rattle.rfc6386.proofs.Demand3Planes.{Block8191, demand3-added, demand3-sub}
 use Rattle.rfc6386.proofs.Parts.{parts_at}
-use Rattle.reconstruct.specs.Answers.{whole_of, parts_of, non_b, walk_b}
-use Rattle.reconstruct.specs.declared.ReconstructedMb.{ReconstructedMb}
+use Rattle.reconstruct.specs.Answers.{MbAnswer, whole_of, parts_of, non_b, walk_b}
 use Rattle.reconstruct.proofs.Replies.{non_b-accepted, walk_b-accepted}
 
 -- the first n blocks
@@ -32,7 +31,7 @@ abbrev pub Near : List ℕ → ℕ → (ℕ → ℤ) → ℕ → ℕ → ℕ →
 Near l i x r c p = Within (13 * 2 ^ 32) (2 ^ 35 * get_or l i 0) (exact_pixel x r c p)
 
 -- ---- the four 16x16 modes
-module _ (m : MbModes) (n : MbNeighbors) (c : List ℤ) (r : ReconstructedMb) (promise : r ≡ non_b m n c) (accepted : r.reply ≡ done) (coded : m.skip ≡ false) where
+module _ (m : MbModes) (n : MbNeighbors) (c : List ℤ) (r : MbAnswer) (promise : r ≡ non_b m n c) (accepted : r.reply ≡ done) (coded : m.skip ≡ false) where
   is_whole : r ≡ whole_of m.y m.uv false n c
   is_whole = promise ∙ (non_b-accepted m n c (rw promise at accepted)).2 ∙ rw coded
 
@@ -52,7 +51,7 @@ module _ (m : MbModes) (n : MbNeighbors) (c : List ℤ) (r : ReconstructedMb) (p
   non_b-v h i j hi hj = rw is_whole (demand3-added 8 (uv_prediction m.uv n.v) (block_at c 336) i j hi hj (h (2 * (i / 4) + j / 4) (omega arith)))
 
 -- ---- mode B
-module _ (subs : List IntraBmode) (there : Bool) (m : MbModes) (n : MbNeighbors) (c : List ℤ) (r : ReconstructedMb)
+module _ (subs : List IntraBmode) (there : Bool) (m : MbModes) (n : MbNeighbors) (c : List ℤ) (r : MbAnswer)
     (promise : r ≡ walk_b subs there m n c) (accepted : r.reply ≡ done) (coded : m.skip ≡ false) where
   is-parts : r ≡ parts_of subs m.uv false n c
   is-parts = promise ∙ (walk_b-accepted subs there m n c (rw promise at accepted)).2 ∙ rw coded

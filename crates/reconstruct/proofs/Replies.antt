@@ -18,12 +18,11 @@ use Rattle.macroblock.specs.declared.modes.IntraBmode.{IntraBmode}
 use Rattle.macroblock.specs.declared.modes.MbModes.{MbModes}
 use Rattle.macroblock.specs.declared.neighbors.MbNeighbors.{MbNeighbors}
 use Rattle.rfc6386.specs.Edges.{is_b}
-use Rattle.reconstruct.specs.Answers.{refusal, whole_of, parts_of, non_b, walk_b}
-use Rattle.reconstruct.specs.declared.ReconstructedMb.{ReconstructedMb}
+use Rattle.reconstruct.specs.Answers.{MbAnswer, refusal, whole_of, parts_of, non_b, walk_b}
 
 -- ---- the walker of the 16x16 modes
 module _ (m : MbModes) (n : MbNeighbors) (c : List ℤ) where
-  abbrev planes : ReconstructedMb
+  abbrev planes : MbAnswer
   planes = whole_of m.y m.uv m.skip n c
 
   whole_by : (b e : Bool) → (pick b (refusal b_pred) (pick e planes (refusal wrong_length))).reply ≡ done
@@ -49,10 +48,10 @@ module _ (m : MbModes) (n : MbNeighbors) (c : List ℤ) where
 
 -- ---- the walker of mode B
 module _ (modes : List IntraBmode) (there : Bool) (m : MbModes) (n : MbNeighbors) (c : List ℤ) where
-  abbrev parts : ReconstructedMb
+  abbrev parts : MbAnswer
   parts = parts_of modes m.uv m.skip n c
 
-  abbrev tested : Bool → Bool → ReconstructedMb
+  abbrev tested : Bool → Bool → MbAnswer
   tested t e = pick t (pick e parts (refusal wrong_length)) (refusal no_sub_modes)
 
   parts-by : (t e : Bool) → (tested t e).reply ≡ done → (t ≡ true) × (e ≡ true) × (tested t e ≡ parts)

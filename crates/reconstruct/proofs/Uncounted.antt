@@ -13,21 +13,20 @@ use Rattle.macroblock.specs.declared.modes.MbModes.{MbModes}
 use Rattle.macroblock.specs.declared.neighbors.MbNeighbors.{MbNeighbors}
 use Rattle.rfc6386.specs.Edges.{is_b}
 use Rattle.clipping.proofs.Skipped.{macroblock-skipped, macroblock-B-skipped}
-use Rattle.reconstruct.specs.Answers.{refusal, whole_of, parts_of, non_b, walk_b}
-use Rattle.reconstruct.specs.declared.ReconstructedMb.{ReconstructedMb}
+use Rattle.reconstruct.specs.Answers.{MbAnswer, refusal, whole_of, parts_of, non_b, walk_b}
 
 -- ---- an answer that counts nothing; one that counts nothing where it is refused
-abbrev pub Zero : ReconstructedMb → Type 0
+abbrev pub Zero : MbAnswer → Type 0
 Zero r = r.clipped ≡ 0
 
-abbrev pub Quiet : ReconstructedMb → Type 0
+abbrev pub Quiet : MbAnswer → Type 0
 Quiet r = (r.reply ≡ done → ⊥) → r.clipped ≡ 0
 
-pub zero-pick : (b : Bool) (x y : ReconstructedMb) → Zero x → Zero y → Zero (pick b x y)
+pub zero-pick : (b : Bool) (x y : MbAnswer) → Zero x → Zero y → Zero (pick b x y)
 zero-pick true x y p q = p
 zero-pick false x y p q = q
 
-pub quiet-pick : (b : Bool) (x y : ReconstructedMb) → Quiet x → Quiet y → Quiet (pick b x y)
+pub quiet-pick : (b : Bool) (x y : MbAnswer) → Quiet x → Quiet y → Quiet (pick b x y)
 quiet-pick true x y p q = p
 quiet-pick false x y p q = q
 

@@ -3,48 +3,49 @@
 // 16x16 luma modes, one for luma mode B.
 #![tactic(auto)]
 
-ghost use Rattle.std.specs.Prelude.{◌≡◌};
-ghost use Rattle.reconstruct.specs.Answers.{refusal, whole_of, parts_of, non_b, walk_b};
+ghost use Rattle.std.specs.Prelude.{◌≡◌, ◌≤◌};
+ghost use Rattle.reconstruct.specs.Answers.{drawn, told, macroblock_of, whole_of, parts_of, non_b, walk_b};
 ghost use Rattle.rfc6386.specs.Edges.{is_b};
 
-use macroblock::{IntraBmode, IntraUvMode, IntraYMode, MbModes, MbNeighbors, reply};
+use macroblock::{IntraBmode, IntraUvMode, IntraYMode, MbModes, MbNeighbors, Refusal};
 
-// The planes of a macroblock, row by row, and how many sums were below 0 or above 255 before they were held within them; all
-// of it 0 beside a reply that is not 0.
-#[derive(Clone, Copy)]
+// The planes of a macroblock, row by row, and how many sums were below 0 or above 255 before they were held within them.
+#[derive(Clone, Copy, Debug, PartialEq, Eq)]
 pub struct ReconstructedMb {
-    pub reply: u32,
     pub y: [u8; 256],
     pub u: [u8; 64],
     pub v: [u8; 64],
     pub clipped: u32,
 }
 
-// A refusal: its number, and zero pixels.
-pub fn refused(reply: u32) -> ReconstructedMb
-    ensures { result ≡ refusal reply }
-{
-    let y = [0u8; 256];
-    let c = [0u8; 64];
-    ReconstructedMb {
-        reply,
-        y,
-        u: c,
-        v: c,
-        clipped: 0,
-    }
-}
-
+// Kept: a name that the project promises, one `matches!`.
 // Whether a luma mode is B.
 pub fn is_b(mode: IntraYMode) -> bool
     ensures { result ≡ is_b mode }
 {
-    match mode {
-        IntraYMode::Dc => false,
-        IntraYMode::V => false,
-        IntraYMode::H => false,
-        IntraYMode::Tm => false,
-        IntraYMode::B => true,
+    matches!(mode, IntraYMode::B)
+}
+
+// The macroblock of its luma, with the chroma whose coefficients begin at `base`: U's 64, then V's.
+fn with_chroma(
+    luma: ([u8; 256], u32),
+    uv: IntraUvMode,
+    skip: bool,
+    neighbors: MbNeighbors,
+    coeffs: &[i16],
+    base: usize,
+) -> ReconstructedMb
+    requires { (luma.1 ≤ 256) × (base ≤ 400) }
+    ensures { drawn result ≡ macroblock_of luma uv skip neighbors coeffs.now base }
+{
+    let (y, y_clipped) = luma;
+    let (u, u_clipped) = planes::uv_plane(uv, skip, neighbors.u, coeffs, base);
+    let (v, v_clipped) = planes::uv_plane(uv, skip, neighbors.v, coeffs, base + 64);
+    ReconstructedMb {
+        y,
+        u,
+        v,
+        clipped: y_clipped + u_clipped + v_clipped,
     }
 }
 
@@ -56,21 +57,10 @@ fn whole(
     neighbors: MbNeighbors,
     coeffs: &[i16],
 ) -> ReconstructedMb
-    ensures { result ≡ whole_of y uv skip neighbors coeffs.now }
+    ensures { drawn result ≡ whole_of y uv skip neighbors coeffs.now }
 {
     let luma = planes::y_whole(y, skip, neighbors.y, coeffs);
-    let chroma_u = planes::uv_plane(uv, skip, neighbors.u, coeffs, 272);
-    let chroma_v = planes::uv_plane(uv, skip, neighbors.v, coeffs, 336);
-    let y_pixels = luma.pixels;
-    let u_pixels = chroma_u.pixels;
-    let v_pixels = chroma_v.pixels;
-    ReconstructedMb {
-        reply: reply::DONE,
-        y: y_pixels,
-        u: u_pixels,
-        v: v_pixels,
-        clipped: luma.clipped + chroma_u.clipped + chroma_v.clipped,
-    }
+    with_chroma(luma, uv, skip, neighbors, coeffs, 272)
 }
 
 // A macroblock in one of the four 16x16 luma modes (14.2). It takes 400 coefficients, each block in raster order: Y2 16,
@@ -79,18 +69,18 @@ pub fn decode_keyframe_mb_non_bpred(
     modes: MbModes,
     neighbors: MbNeighbors,
     coeffs: &[i16],
-) -> ReconstructedMb
-    ensures { result ≡ non_b modes neighbors coeffs.now }
+) -> Result<ReconstructedMb, Refusal>
+    ensures { told result ≡ non_b modes neighbors coeffs.now }
 {
     match modes {
         MbModes { y, uv, skip } => {
             if is_b(y) {
-                return refused(reply::B_PRED);
+                return Err(Refusal::BPred);
             }
             if coeffs.len() != 400 {
-                return refused(reply::WRONG_LENGTH);
+                return Err(Refusal::WrongLength);
             }
-            whole(y, uv, skip, neighbors, coeffs)
+            Ok(whole(y, uv, skip, neighbors, coeffs))
         }
     }
 }
@@ -103,21 +93,10 @@ fn parts(
     neighbors: MbNeighbors,
     coeffs: &[i16],
 ) -> ReconstructedMb
-    ensures { result ≡ parts_of sub_modes uv skip neighbors coeffs.now }
+    ensures { drawn result ≡ parts_of sub_modes uv skip neighbors coeffs.now }
 {
     let luma = sub_blocks::luma_parts(sub_modes, skip, neighbors.y, coeffs);
-    let chroma_u = planes::uv_plane(uv, skip, neighbors.u, coeffs, 256);
-    let chroma_v = planes::uv_plane(uv, skip, neighbors.v, coeffs, 320);
-    let y_pixels = luma.pixels;
-    let u_pixels = chroma_u.pixels;
-    let v_pixels = chroma_v.pixels;
-    ReconstructedMb {
-        reply: reply::DONE,
-        y: y_pixels,
-        u: u_pixels,
-        v: v_pixels,
-        clipped: luma.clipped + chroma_u.clipped + chroma_v.clipped,
-    }
+    with_chroma(luma, uv, skip, neighbors, coeffs, 256)
 }
 
 // A macroblock in luma mode B (12.3), whatever luma mode its record names. It takes 384 coefficients, without Y2, and the
@@ -126,21 +105,22 @@ fn parts(
 pub fn decode_keyframe_mb_bpred(
     modes: MbModes,
     sub_modes: [IntraBmode; 16],
+    // Kept: an array beside its mark is the project's form for modes that may be missing, and what `walk_b` takes.
     sub_modes_there: bool,
     neighbors: MbNeighbors,
     coeffs: &[i16],
-) -> ReconstructedMb
-    ensures { result ≡ walk_b sub_modes sub_modes_there modes neighbors coeffs.now }
+) -> Result<ReconstructedMb, Refusal>
+    ensures { told result ≡ walk_b sub_modes sub_modes_there modes neighbors coeffs.now }
 {
     match modes {
         MbModes { y: _, uv, skip } => {
             if !sub_modes_there {
-                return refused(reply::NO_SUB_MODES);
+                return Err(Refusal::NoSubModes);
             }
             if coeffs.len() != 384 {
-                return refused(reply::WRONG_LENGTH);
+                return Err(Refusal::WrongLength);
             }
-            parts(sub_modes, uv, skip, neighbors, coeffs)
+            Ok(parts(sub_modes, uv, skip, neighbors, coeffs))
         }
     }
 }

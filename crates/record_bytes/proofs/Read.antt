@@ -1,16 +1,12 @@
 -- Reading the bytes of a record gives the record back, where its rows and columns have their lengths. Assumes nothing.
-use Prim.Native.Nat.{ℕ}
 use mathlib.Core.Bool.{Bool, true, false}
-use mathlib.Core.Path.{◌≡◌, refl, sym, ◌∙◌}
-use mathlib.Core.List.{List}
-use native.Mathlib.Nat.{le_of_eq, zero-add}
+use mathlib.Core.Path.{◌≡◌, refl}
 use lib.Dec.{eqb}
 use lib.ListN.{length}
-use lib.Seq.{take_all}
 use Rattle.lists.specs.Lists.{table, part}
-use Rattle.lists.proofs.Table.{table-take}
 use Rattle.macroblock.specs.declared.neighbors.MbNeighbors.{MbNeighbors}
 use Rattle.record_bytes.specs.Bytes.{mark_of, luma_marks, chroma_marks, luma_bytes, chroma_bytes, luma_of, chroma_of, record_of, bytes_of}
+use Rattle.record_bytes.proofs.Laid.{whole_part}
 
 -- rows and columns have their lengths
 pub record Sized (n : MbNeighbors) : Type 0 where
@@ -20,11 +16,6 @@ pub record Sized (n : MbNeighbors) : Type 0 where
   pub u-left : length n.u.left ≡ 8
   pub v-row : length n.v.row ≡ 9
   pub v-left : length n.v.left ≡ 8
-
--- all of a list is its first n
-whole_part : (n : ℕ) (s : List ℕ) → length s ≡ n → part n s 0 ≡ s
-unfolding part
-whole_part n s e = simp zero-add (table-take n s 0 (le_of_eq (sym e)) ∙ take_all n s (le_of_eq e))
 
 -- a mark's byte says the mark
 mark-back : (b : Bool) → eqb (mark_of b) 1 ≡ b

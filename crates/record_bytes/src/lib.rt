@@ -2,10 +2,10 @@
 // drawn in specs/Bytes.antt.
 #![tactic(auto)]
 
-ghost use Rattle.std.specs.Prelude.{◌≡◌, ◌+◌, ◌<◌, ◌≤◌, length};
+ghost use Rattle.std.specs.Prelude.{◌≡◌, ◌+◌, ◌≤◌};
 ghost use Rattle.lists.specs.Lists.{part};
-ghost use Rattle.record_bytes.specs.Bytes.{marked, marks_known, luma_of, chroma_of, record_of, mark_of, bytes_of};
-ghost use Rattle.record_bytes.specs.Steps.{laid_at, blank, luma_marks_laid, chroma_marks_laid, marks_laid, luma_laid, chroma_laid};
+ghost use Rattle.record_bytes.specs.Bytes.{marks_known, luma_of, chroma_of, record_of, bytes_of};
+ghost use Rattle.record_bytes.specs.Steps.{laid_at, luma_laid, chroma_laid};
 
 use macroblock::{ChromaEdges, LumaEdges, MbNeighbors};
 
@@ -13,184 +13,101 @@ use macroblock::{ChromaEdges, LumaEdges, MbNeighbors};
 pub fn marks_known(bytes: [u8; 81]) -> bool
     ensures { result ≡ marks_known bytes }
 {
-    macroblock::all_within(&bytes[0..10], 1)
+    macroblock::all_within(&bytes[..10], 1)
 }
 
-// The bytes of `s` from `at` on, as many as `to` has.
-fn take_part(to: &mut [u8], s: &[u8], at: usize)
-    requires { at + length to.old ≤ length s.now }
-    ensures { to.new ≡ part (length to.old) s.now at }
+// The N bytes from `at` on.
+fn part<const N: usize>(bytes: &[u8; 81], at: usize) -> [u8; N]
+    requires { at + N ≤ 81 }
+    ensures { result ≡ part N bytes.now at }
 {
-    for i in 0..to.len() {
-        to[i] = s[at + i];
-    }
-}
-
-fn row_at(bytes: &[u8; 81]) -> [u8; 21]
-    ensures { result ≡ part 21 bytes.now 10 }
-{
-    let mut to = [0u8; 21];
-    take_part(&mut to, bytes, 10);
+    let mut to = [0; N];
+    to.copy_from_slice(&bytes[at..at + N]);
     to
-}
-
-fn column_at(bytes: &[u8; 81]) -> [u8; 16]
-    ensures { result ≡ part 16 bytes.now 31 }
-{
-    let mut to = [0u8; 16];
-    take_part(&mut to, bytes, 31);
-    to
-}
-
-fn nine_at(bytes: &[u8; 81], at: usize) -> [u8; 9]
-    requires { at + 9 ≤ 81 }
-    ensures { result ≡ part 9 bytes.now at }
-{
-    let mut to = [0u8; 9];
-    take_part(&mut to, bytes, at);
-    to
-}
-
-fn eight_at(bytes: &[u8; 81], at: usize) -> [u8; 8]
-    requires { at + 8 ≤ 81 }
-    ensures { result ≡ part 8 bytes.now at }
-{
-    let mut to = [0u8; 8];
-    take_part(&mut to, bytes, at);
-    to
-}
-
-fn marked(bytes: &[u8; 81], k: usize) -> bool
-    requires { k < 81 }
-    ensures { result ≡ marked bytes.now k }
-{
-    bytes[k] == 1
 }
 
 // The luma edges of the record.
+#[tactic(auto, unfolding(crate::specs::Bytes::luma_of))]
 fn luma_of(bytes: &[u8; 81]) -> LumaEdges
     ensures { result ≡ luma_of bytes.now }
 {
-    let row = row_at(bytes);
-    let left = column_at(bytes);
     LumaEdges {
-        row,
-        topleft_there: marked(bytes, 0),
-        above_there: marked(bytes, 1),
-        above_right_there: marked(bytes, 2),
-        left,
-        left_there: marked(bytes, 3),
+        row: part(bytes, 10),
+        topleft_there: bytes[0] == 1,
+        above_there: bytes[1] == 1,
+        above_right_there: bytes[2] == 1,
+        left: part(bytes, 31),
+        left_there: bytes[3] == 1,
     }
 }
 
 // The edges of U or V, their marks from byte `mark` on, their pixels from byte `at` on.
+#[tactic(auto, unfolding(crate::specs::Bytes::chroma_of))]
 fn chroma_of(bytes: &[u8; 81], mark: usize, at: usize) -> ChromaEdges
     requires { (mark + 3 ≤ 81) × (at + 17 ≤ 81) }
     ensures { result ≡ chroma_of bytes.now mark at }
 {
-    let row = nine_at(bytes, at);
-    let left = eight_at(bytes, at + 9);
     ChromaEdges {
-        row,
-        topleft_there: marked(bytes, mark),
-        above_there: marked(bytes, mark + 1),
-        left,
-        left_there: marked(bytes, mark + 2),
+        row: part(bytes, at),
+        topleft_there: bytes[mark] == 1,
+        above_there: bytes[mark + 1] == 1,
+        left: part(bytes, at + 9),
+        left_there: bytes[mark + 2] == 1,
     }
 }
 
 // The record that the bytes stand for; a mark is there where its byte is 1.
+#[tactic(auto, unfolding(crate::specs::Bytes::record_of))]
 pub fn neighbors_of(bytes: [u8; 81]) -> MbNeighbors
     ensures { result ≡ record_of bytes }
 {
-    let y = luma_of(&bytes);
-    let u = chroma_of(&bytes, 4, 47);
-    let v = chroma_of(&bytes, 7, 64);
-    MbNeighbors { y, u, v }
-}
-
-fn mark(there: bool) -> u8
-    ensures { result ≡ mark_of there }
-{
-    if there { 1 } else { 0 }
-}
-
-// `n` bytes of `s`, stored from `at` on.
-fn lay(b: &mut [u8; 81], at: usize, s: &[u8], n: usize)
-    requires { (n ≤ length s.now) × (at + n ≤ 81) }
-    ensures { b.new ≡ laid_at n at s.now b.old }
-{
-    for i in 0..n {
-        b[at + i] = s[i];
+    MbNeighbors {
+        y: luma_of(&bytes),
+        u: chroma_of(&bytes, 4, 47),
+        v: chroma_of(&bytes, 7, 64),
     }
 }
 
-fn blank() -> [u8; 81]
-    ensures { result ≡ blank }
+// N bytes put from `at` on.
+fn lay<const N: usize>(bytes: &mut [u8; 81], at: usize, from: [u8; N])
+    requires { at + N ≤ 81 }
+    ensures { bytes.new ≡ laid_at N at from.entry bytes.old }
 {
-    [0u8; 81]
+    bytes[at..at + N].copy_from_slice(&from);
 }
 
-fn lay_luma_marks(b: &mut [u8; 81], e: LumaEdges)
-    ensures { b.new ≡ luma_marks_laid e b.old }
+#[tactic(auto, unfolding(crate::specs::Steps::luma_laid))]
+fn lay_luma(bytes: &mut [u8; 81], edges: LumaEdges)
+    ensures { bytes.new ≡ luma_laid edges bytes.old }
 {
-    b[0] = mark(e.topleft_there);
-    b[1] = mark(e.above_there);
-    b[2] = mark(e.above_right_there);
-    b[3] = mark(e.left_there);
+    bytes[0] = u8::from(edges.topleft_there);
+    bytes[1] = u8::from(edges.above_there);
+    bytes[2] = u8::from(edges.above_right_there);
+    bytes[3] = u8::from(edges.left_there);
+    lay(bytes, 10, edges.row);
+    lay(bytes, 31, edges.left);
 }
 
-fn lay_chroma_marks(b: &mut [u8; 81], at: usize, e: ChromaEdges)
-    requires { at + 3 ≤ 81 }
-    ensures { b.new ≡ chroma_marks_laid at e b.old }
+// The marks from byte `mark` on, the pixels from byte `at` on.
+#[tactic(auto, unfolding(crate::specs::Steps::chroma_laid))]
+fn lay_chroma(bytes: &mut [u8; 81], mark: usize, at: usize, edges: ChromaEdges)
+    requires { (mark + 3 ≤ 81) × (at + 17 ≤ 81) }
+    ensures { bytes.new ≡ chroma_laid mark at edges bytes.old }
 {
-    b[at] = mark(e.topleft_there);
-    b[at + 1] = mark(e.above_there);
-    b[at + 2] = mark(e.left_there);
-}
-
-fn lay_luma(b: &mut [u8; 81], row: [u8; 21], left: [u8; 16])
-    ensures { b.new ≡ luma_laid row left b.old }
-{
-    lay(b, 10, &row, 21);
-    lay(b, 31, &left, 16);
-}
-
-fn lay_chroma(b: &mut [u8; 81], at: usize, row: [u8; 9], left: [u8; 8])
-    requires { at + 17 ≤ 81 }
-    ensures { b.new ≡ chroma_laid at row left b.old }
-{
-    lay(b, at, &row, 9);
-    lay(b, at + 9, &left, 8);
-}
-
-// The marks of a record, in their places.
-fn marks_laid(n: MbNeighbors) -> [u8; 81]
-    ensures { result ≡ marks_laid n }
-{
-    let mut b = blank();
-    lay_luma_marks(&mut b, n.y);
-    lay_chroma_marks(&mut b, 4, n.u);
-    lay_chroma_marks(&mut b, 7, n.v);
-    b
+    bytes[mark] = u8::from(edges.topleft_there);
+    bytes[mark + 1] = u8::from(edges.above_there);
+    bytes[mark + 2] = u8::from(edges.left_there);
+    lay(bytes, at, edges.row);
+    lay(bytes, at + 9, edges.left);
 }
 
 // The 81 bytes of a record.
 pub fn bytes_of(n: MbNeighbors) -> [u8; 81]
     ensures { result ≡ bytes_of n }
 {
-    let y = n.y;
-    let y_row = y.row;
-    let y_left = y.left;
-    let u = n.u;
-    let u_row = u.row;
-    let u_left = u.left;
-    let v = n.v;
-    let v_row = v.row;
-    let v_left = v.left;
-    let mut b = marks_laid(n);
-    lay_luma(&mut b, y_row, y_left);
-    lay_chroma(&mut b, 47, u_row, u_left);
-    lay_chroma(&mut b, 64, v_row, v_left);
-    b
+    let mut bytes = [0; 81];
+    lay_luma(&mut bytes, n.y);
+    lay_chroma(&mut bytes, 4, 47, n.u);
+    lay_chroma(&mut bytes, 7, 64, n.v);
+    bytes
 }

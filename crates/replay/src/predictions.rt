@@ -1,43 +1,41 @@
 // Records of the predictors.
 use crate::answers::{FILL, agree};
-use crate::numbers::{byte, count, part};
+use crate::numbers::byte_at;
+use zopredil::predictions;
 
-pub fn predict_y16x16(record: &[u8]) -> bool {
-    let above = 2 + count(record, 1);
-    let left = 19 + count(record, 18);
+pub fn predict_y16x16(record: &[u8; 4096]) -> bool {
     let mut out = [FILL; 256];
-    let reply = zopredil::predictions::zopredil_predict_y16x16(
-        byte(record, 0),
-        part(record, 2, above),
-        part(record, 19, left),
-        byte(record, 35),
+    let reply = predictions::zopredil_predict_y16x16(
+        record[0],
+        &record[2..2 + byte_at(record, 1)],
+        &record[19..19 + byte_at(record, 18)],
+        record[35],
         &mut out,
     );
-    agree(part(record, 36, 293), reply, &out)
+    agree(&record[36..293], reply, &out)
 }
 
-pub fn predict_uv8x8(record: &[u8]) -> bool {
-    let above = 2 + count(record, 1);
-    let left = 11 + count(record, 10);
+// Kept: as `predict_y16x16` with the places of another kind of record, a call each.
+pub fn predict_uv8x8(record: &[u8; 4096]) -> bool {
     let mut out = [FILL; 64];
-    let reply = zopredil::predictions::zopredil_predict_uv8x8(
-        byte(record, 0),
-        part(record, 2, above),
-        part(record, 11, left),
-        byte(record, 19),
+    let reply = predictions::zopredil_predict_uv8x8(
+        record[0],
+        &record[2..2 + byte_at(record, 1)],
+        &record[11..11 + byte_at(record, 10)],
+        record[19],
         &mut out,
     );
-    agree(part(record, 20, 85), reply, &out)
+    agree(&record[20..85], reply, &out)
 }
 
-pub fn predict_b4x4(record: &[u8]) -> bool {
+pub fn predict_b4x4(record: &[u8; 4096]) -> bool {
     let mut out = [FILL; 16];
-    let reply = zopredil::predictions::zopredil_predict_b4x4(
-        byte(record, 0),
-        part(record, 1, 9),
-        part(record, 9, 13),
-        byte(record, 13),
+    let reply = predictions::zopredil_predict_b4x4(
+        record[0],
+        &record[1..9],
+        &record[9..13],
+        record[13],
         &mut out,
     );
-    agree(part(record, 14, 31), reply, &out)
+    agree(&record[14..31], reply, &out)
 }

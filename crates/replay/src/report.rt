@@ -1,103 +1,80 @@
 // How far the replay came, and what is printed of it.
-use crate::numbers::wide;
 use checksum::Checksum;
-use std::io;
+use std::{fmt, io};
 
-// Outcomes.
-pub const GOING: u8 = 0;
+#[derive(Clone, Copy, Debug, PartialEq, Eq)]
+pub enum Outcome {
+    Going,
+    Whole,
+    Differs,
+    NoFormat,
+}
 
-pub const WHOLE: u8 = 1;
+impl fmt::Display for Outcome {
+    fn fmt<W: fmt::Write>(&self, f: &mut fmt::Formatter<W>) -> fmt::Result {
+        f.write_str(match self {
+            Outcome::Whole => "the end, and the checksum is right",
+            Outcome::Differs => "another answer",
+            // A replay that still goes has taken the most records that it takes, and saw no end.
+            Outcome::Going | Outcome::NoFormat => "not of the format, or the checksum is wrong",
+        })
+    }
+}
 
-pub const DIFFERS: u8 = 2;
-
-pub const NO_FORMAT: u8 = 3;
-
-// The checksum of what was read, the number of records that agreed, and the kind of the last one that was read.
-#[derive(Clone, Copy)]
+// The checksum of what was read, the number of records that agreed, and the number of the kind that was read last.
+#[derive(Clone, Copy, Debug, PartialEq, Eq)]
 pub struct Progress {
     pub sum: Checksum,
     pub records: u64,
     pub kind: u8,
-    pub outcome: u8,
+    pub outcome: Outcome,
 }
 
-pub fn start() -> Progress {
-    let sum = checksum::start();
-    Progress {
-        sum,
-        records: 0,
-        kind: 0,
-        outcome: GOING,
+impl Progress {
+    pub fn start() -> Self {
+        Progress {
+            sum: Checksum::start(),
+            records: 0,
+            kind: 0,
+            outcome: Outcome::Going,
+        }
+    }
+
+    // The same progress, come to an end.
+    pub fn stopped(self, outcome: Outcome) -> Self {
+        Progress { outcome, ..self }
+    }
+
+    // The byte that says a record's kind was read.
+    pub fn with_kind(self, kind: u8) -> Self {
+        Progress {
+            sum: self.sum.with_byte(kind),
+            kind,
+            ..self
+        }
+    }
+
+    // The record's bytes agree.
+    pub fn agreed(self, bytes: &[u8]) -> Self {
+        Progress {
+            sum: self.sum.with_bytes(bytes),
+            records: self.records.wrapping_add(1),
+            ..self
+        }
     }
 }
 
-// The same progress, come to an end.
-pub fn stopped(at: Progress, outcome: u8) -> Progress {
-    let sum = at.sum;
-    Progress {
-        sum,
-        records: at.records,
-        kind: at.kind,
-        outcome,
-    }
-}
-
-// A kind byte was read.
-pub fn with_kind(at: Progress, kind: u8) -> Progress {
-    let sum = checksum::with_byte(at.sum, kind);
-    Progress {
-        sum,
-        records: at.records,
-        kind,
-        outcome: GOING,
-    }
-}
-
-// The record's bytes agree.
-pub fn agreed(at: Progress, bytes: &[u8]) -> Progress {
-    let sum = checksum::with_bytes(at.sum, bytes);
-    Progress {
-        sum,
-        records: std::num::wrapping_add_u64(at.records, 1),
-        kind: at.kind,
-        outcome: GOING,
-    }
-}
-
-// One more record of a kind.
-pub fn count(counts: &mut [u64; 18], kind: u8) {
-    let k = wide(kind);
-    if k < 18 {
-        counts[k] = std::num::wrapping_add_u64(counts[k], 1);
-    }
-}
-
-fn print_count(rt: &impl Print, kind: usize, n: u64) -> io::Result<()> {
-    println!(rt; "kind {kind}: {n}")
-}
-
-fn print_counts(rt: &impl Print, counts: &[u64; 18]) -> io::Result<()> {
-    for kind in 1..18 {
-        print_count(rt, kind, counts[kind])?;
-    }
-    Ok(())
-}
-
-fn print_outcome(rt: &impl Print, outcome: u8) -> io::Result<()> {
-    if outcome == WHOLE {
-        println!(rt; ": the end, and the checksum is right")
-    } else if outcome == DIFFERS {
-        println!(rt; ": another answer")
-    } else {
-        println!(rt; ": not of the format, or the checksum is wrong")
-    }
-}
-
-// How many records of each kind agreed, and where the replay stopped: records are numbered from 0.
+// How many records of each kind agreed, at the place of the kind's number, and where the replay stopped: records are numbered
+// from 0.
 pub fn print(rt: &impl Print, counts: &[u64; 18], at: Progress) -> io::Result<()> {
-    print_counts(rt, counts)?;
-    let records = at.records;
-    let kind = at.kind;
-    print!(rt; "record {records}, kind {kind}")?;
-    print_outcome(rt, at.outcome)
+    for (kind, n) in counts.iter().enumerate().skip(1) {
+        println!(rt; "kind {kind}: {n}")?;
+    }
+    let Progress {
+        records,
+        kind,
+        outcome,
+        ..
+    } = at;
+    println!(rt; "record {records}, kind {kind}: {outcome}")
 }

@@ -1,6 +1,7 @@
 // The sample, from its first record to its end.
-use crate::report::Progress;
-use crate::{kinds, numbers, report};
+use crate::kinds::Kind;
+use crate::numbers;
+use crate::report::{self, Outcome, Progress};
 use checksum::Checksum;
 use reading::read_full;
 use std::io;
@@ -8,75 +9,64 @@ use std::io::Read;
 
 // After kind 0: the checksum's two sums, and then nothing.
 fn end_follows(input: &mut impl Read, sum: Checksum) -> io::Result<bool> {
-    let mut bytes = [0u8; 5];
-    if read_full(input, &mut bytes)? != 4 {
-        return Ok(false);
-    }
-    if numbers::length(&bytes, 0) != sum.a {
-        return Ok(false);
-    }
-    Ok(numbers::length(&bytes, 2) == sum.b)
+    let mut bytes = [0; 5];
+    let n = read_full(input, &mut bytes)?;
+    let read = Checksum {
+        a: numbers::u16_at(&bytes, 0),
+        b: numbers::u16_at(&bytes, 2),
+    };
+    Ok(n == 4 && read == sum)
 }
 
-// Whether a record agrees. One of kind 13 is kept in `planes`, for those that follow.
-fn agrees(kind: u8, record: &[u8], planes: &mut [u8]) -> bool {
-    if kind == 13 {
-        slices::copy(planes, record);
-        return true;
-    }
-    kinds::agrees(kind, record, planes)
-}
-
-// The rest of a record, after its kind.
+// The rest of a record, after the byte of its kind.
 fn record_follows(
     input: &mut impl Read,
-    planes: &mut [u8],
+    planes: &mut [u8; 4096],
     before: Progress,
 ) -> io::Result<Progress> {
-    let n = kinds::length(before.kind);
-    if n == 0 {
-        return Ok(report::stopped(before, report::NO_FORMAT));
+    let Ok(kind) = Kind::try_from(before.kind) else {
+        return Ok(before.stopped(Outcome::NoFormat));
+    };
+    let n = kind.length();
+    let mut record = [0; 4096];
+    if read_full(input, &mut record[..n])? != n {
+        return Ok(before.stopped(Outcome::NoFormat));
     }
-    let mut record = [0u8; 4096];
-    if read_full(input, numbers::first_to_write(&mut record, n))? != n {
-        return Ok(report::stopped(before, report::NO_FORMAT));
+    if !kind.agrees(&record, planes) {
+        return Ok(before.stopped(Outcome::Differs));
     }
-    if !agrees(before.kind, &record, planes) {
-        return Ok(report::stopped(before, report::DIFFERS));
-    }
-    Ok(report::agreed(before, numbers::part(&record, 0, n)))
+    Ok(before.agreed(&record[..n]))
 }
 
 // One record, or the end.
-fn turn(input: &mut impl Read, planes: &mut [u8], before: Progress) -> io::Result<Progress> {
-    let mut first = [0u8; 1];
-    if read_full(input, &mut first)? != 1 {
-        return Ok(report::stopped(before, report::NO_FORMAT));
+fn turn(input: &mut impl Read, planes: &mut [u8; 4096], before: Progress) -> io::Result<Progress> {
+    let mut kind = [0; 1];
+    if read_full(input, &mut kind)? != 1 {
+        return Ok(before.stopped(Outcome::NoFormat));
     }
-    let kind = first[0];
-    let at = report::with_kind(before, kind);
-    if kind != 0 {
+    let at = before.with_kind(kind[0]);
+    if kind[0] != 0 {
         return record_follows(input, planes, at);
     }
-    let sum = at.sum;
-    if end_follows(input, sum)? {
-        return Ok(report::stopped(at, report::WHOLE));
+    if end_follows(input, at.sum)? {
+        return Ok(at.stopped(Outcome::Whole));
     }
-    Ok(report::stopped(at, report::NO_FORMAT))
+    Ok(at.stopped(Outcome::NoFormat))
 }
 
 // A proved loop has to end, and nothing says that a file does: this one takes a million records at most.
 pub fn replay(rt: &impl Print, input: &mut impl Read) -> io::Result<()> {
-    let mut planes = [0u8; 4096];
+    let mut planes = [0; 4096];
     let mut counts = [0u64; 18];
-    let mut at = report::start();
+    let mut at = Progress::start();
+    // Kept: no plainer: nothing says that a file ends, and the number of turns is what makes the loop end.
     for _ in 0..1000000usize {
-        if at.outcome != report::GOING {
+        at = turn(input, &mut planes, at)?;
+        if at.outcome != Outcome::Going {
             break;
         }
-        at = turn(input, &mut planes, at)?;
-        if at.outcome == report::GOING {
-            report::count(&mut counts, at.kind);
+        if let Some(count) = counts.get_mut(usize::from(at.kind)) {
+            *count = count.wrapping_add(1);
         }
     }
     report::print(rt, &counts, at)

@@ -1,184 +1,188 @@
-// A still file of at most 22 macroblocks, and the planes beside it.
-ghost use Rattle.std.specs.Prelude.{◌≤◌};
+// A still file of at most 22 macroblocks, by its parts (docs/STILL-FILE.md), and its planes as the library draws them.
+ghost use Rattle.std.specs.Prelude.{◌≡◌, ◌≤◌, length};
 
-use crate::loose;
-use crate::numbers::{part, part_to_write, shorts, shorts_part, size};
-use std::rt::Files;
-use std::{fs, io};
+#[derive(Clone, Copy)]
+pub struct Still<'a> {
+    bytes: &'a [u8; 65536],
+    count: usize,
+    ghost few: { count ≤ 22 },
+}
 
-// Reads a file, and answers its length; 0 for one that cannot be opened, after a line that says why.
-fn read(rt: &(impl Files + Eprint + Alloc), name: &str, bytes: &mut [u8]) -> io::Result<usize> {
-    match fs::open(rt, name) {
-        Ok(mut file) => reading::read_full(&mut file, bytes),
-        Err(error) => {
-            let said = format!(in rt.alloc(); "{error}")?;
-            // the system's text alone, without the number that std puts after it
-            match said.split_once(" (os error ") {
-                Some((text, _)) => eprintln!(rt; "{name}: {text}")?,
-                None => eprintln!(rt; "{name}: {said}")?,
-            }
-            Ok(0)
-        }
+// As many shorts as out has room for, low byte first.
+// Kept: `replay` has these lines too; one for both would be a public function of a third crate, no plainer.
+fn shorts(bytes: &[u8], out: &mut [i16]) {
+    for (number, pair) in out.iter_mut().zip(bytes.as_chunks::<2>().0) {
+        *number = i16::from_le_bytes(*pair);
     }
 }
 
 // The number of macroblocks that a still file and its planes have by their lengths; 0 where the two do not fit.
-fn macroblocks(still: usize, planes: usize) -> usize
+fn count_of(still: usize, planes: usize) -> usize
     ensures { result ≤ 22 }
 {
-    let n = planes / 384;
-    if n > 22 {
+    let count = planes / 384;
+    if count > 22 || planes != 384 * count || still != 24 + 819 * count {
         return 0;
     }
-    if planes != 384 * n {
-        return 0;
-    }
-    if still != 24 + 819 * n {
-        return 0;
-    }
-    n
+    count
 }
 
-// Draws the still of n macroblocks, and answers as the library does.
+impl<'a> Still<'a> {
+    // Of a file and of planes that are so long.
+    pub fn new(bytes: &'a [u8; 65536], len: usize, planes: usize) -> Self {
+        let count = count_of(len, planes);
+        Still { bytes, count }
+    }
+
+    // How many macroblocks it has.
+    pub fn count(&self) -> usize
+        ensures { result ≤ 22 }
+    {
+        self.count
+    }
+
+    fn number(&self, at: usize) -> usize
+        requires { at ≤ 65532 }
+        ensures { result ≤ 4294967295 }
+    {
+        let four = [
+            self.bytes[at],
+            self.bytes[at + 1],
+            self.bytes[at + 2],
+            self.bytes[at + 3],
+        ];
+        u32::from_le_bytes(four) as usize
+    }
+
+    // Kept: four numbers of the file's head, a name each.
+    // In pixels.
+    pub fn width(&self) -> usize {
+        self.number(8)
+    }
+
+    pub fn height(&self) -> usize {
+        self.number(12)
+    }
+
+    // In macroblocks.
+    pub fn cols(&self) -> usize
+        ensures { result ≤ 4294967295 }
+    {
+        self.number(16)
+    }
+
+    pub fn rows(&self) -> usize {
+        self.number(20)
+    }
+
+    // Whether the file begins as one and has a macroblock.
+    fn is_one(&self) -> bool {
+        let bytes = self.bytes;
+        self.count > 0 && bytes.starts_with(b"ZSTILL1\n")
+    }
+
+    // The three mode bytes, the sixteen sub-block modes and the 400 coefficients of macroblock k.
+    pub fn modes(&self, k: usize) -> [u8; 3]
+        // Kept: a macroblock at most 22, here and in `loose`, is a counter's range: a type would be opened at once, no plainer.
+        requires { k ≤ 22 }
+    {
+        let at = 24 + 3 * k;
+        [self.bytes[at], self.bytes[at + 1], self.bytes[at + 2]]
+    }
+
+    pub fn sub_modes(&self, k: usize) -> &'a [u8]
+        requires { k ≤ 22 }
+        ensures { length result.now ≡ 16 }
+    {
+        let bytes = self.bytes;
+        let at = 24 + 3 * self.count + 16 * k;
+        &bytes[at..at + 16]
+    }
+
+    pub fn put_coefficients(&self, k: usize, out: &mut [i16])
+        requires { k ≤ 22 }
+    {
+        let bytes = self.bytes;
+        let at = 24 + 19 * self.count + 800 * k;
+        shorts(&bytes[at..at + 800], out);
+    }
+}
+
+// Draws the still, and answers as the library does.
 fn draw(
-    still: &[u8],
-    n: usize,
-    y: &mut [u8],
-    u: &mut [u8],
-    v: &mut [u8],
-    clipped: &mut [u64],
-) -> u64
-    requires { n ≤ 22 }
-{
+    still: &Still,
+    y: &mut [u8; 5632],
+    u: &mut [u8; 1408],
+    v: &mut [u8; 1408],
+    clipped: &mut [u64; 1],
+) -> u64 {
+    let bytes = still.bytes;
+    let n = still.count();
     let sub_modes = 24 + 3 * n;
     let coefficients = 24 + 19 * n;
-    let mut coeffs = [0i16; 8800];
-    shorts(still, coefficients, &mut coeffs);
+    let mut coeffs = [0; 8800];
+    shorts(&bytes[coefficients..], &mut coeffs);
     zopredil::stills::zopredil_still_alone(
-        size(still, 16),
-        size(still, 20),
-        part(still, 24, sub_modes),
-        part(still, sub_modes, coefficients),
-        shorts_part(&coeffs, 0, 400 * n),
-        part_to_write(y, 0, 256 * n),
-        part_to_write(u, 0, 64 * n),
-        part_to_write(v, 0, 64 * n),
+        still.cols(),
+        still.rows(),
+        &bytes[24..sub_modes],
+        &bytes[sub_modes..coefficients],
+        &coeffs[..400 * n],
+        &mut y[..256 * n],
+        &mut u[..64 * n],
+        &mut v[..64 * n],
         clipped,
     )
 }
 
-// Whether the first bytes of y, u and v are the planes of n macroblocks.
-fn same_planes(planes: &[u8], n: usize, y: &[u8], u: &[u8], v: &[u8]) -> bool
-    requires { n ≤ 22 }
-{
-    let luma = 256 * n;
-    let chroma = 64 * n;
-    let second = luma + chroma;
-    if !check::same(part(y, 0, luma), part(planes, 0, luma)) {
-        return false;
+// A still's planes, and how many sums were clipped.
+#[derive(Drop)]
+pub struct Planes {
+    y: [u8; 5632],
+    u: [u8; 1408],
+    v: [u8; 1408],
+    clipped: u64,
+}
+
+impl Planes {
+    // As the library draws the still, beside whether it does. A file that is no still's has planes of zeros.
+    pub fn of(still: &Still) -> (Self, bool) {
+        let mut y = [0; 5632];
+        let mut u = [0; 1408];
+        let mut v = [0; 1408];
+        let mut clipped = [0; 1];
+        let drawn = still.is_one() && draw(still, &mut y, &mut u, &mut v, &mut clipped) == 0;
+        let planes = Planes {
+            y,
+            u,
+            v,
+            clipped: clipped[0],
+        };
+        (planes, drawn)
     }
-    if !check::same(part(u, 0, chroma), part(planes, luma, second)) {
-        return false;
+
+    // Kept: the three planes of a still, a name each.
+    pub fn y(&self, still: &Still) -> &[u8] {
+        &self.y[..256 * still.count()]
     }
-    check::same(part(v, 0, chroma), part(planes, second, second + chroma))
-}
 
-// Whether the still, drawn into y, u and v, has these planes.
-fn agrees(
-    still: &[u8],
-    planes: &[u8],
-    n: usize,
-    y: &mut [u8],
-    u: &mut [u8],
-    v: &mut [u8],
-    clipped: &mut [u64],
-) -> bool
-    requires { n ≤ 22 }
-{
-    if n == 0 {
-        return false;
+    pub fn u(&self, still: &Still) -> &[u8] {
+        &self.u[..64 * still.count()]
     }
-    if !check::same(part(still, 0, 8), b"ZSTILL1\n") {
-        return false;
+
+    pub fn v(&self, still: &Still) -> &[u8] {
+        &self.v[..64 * still.count()]
     }
-    if draw(still, n, y, u, v, clipped) != 0 {
-        return false;
+
+    pub fn clipped(&self) -> u64 {
+        self.clipped
     }
-    same_planes(planes, n, y, u, v)
-}
 
-fn print(rt: &impl Print, text: &str, n: usize) -> io::Result<()> {
-    print!(rt; "{text}{n}")
-}
-
-// A file's checksum: bytes that no pixel depends on count too.
-fn print_checksum(rt: &impl Print, bytes: &[u8]) -> io::Result<()> {
-    let sum = checksum::with_bytes(checksum::start(), bytes);
-    print(rt, ", checksum ", sum.a)?;
-    print(rt, " ", sum.b)
-}
-
-fn print_sizes(rt: &impl Print, still: &[u8]) -> io::Result<()> {
-    print(rt, " ", size(still, 8))?;
-    print(rt, "x", size(still, 12))?;
-    print(rt, ", ", size(still, 16))?;
-    print(rt, " by ", size(still, 20))
-}
-
-fn print_verdict(rt: &impl Print, text: &str, agrees: bool) -> io::Result<()> {
-    if agrees {
-        print!(rt; "{text}equal")
-    } else {
-        print!(rt; "{text}DIFFERENT")
+    // Whether they are the planes that stand one behind another in these bytes.
+    pub fn are(&self, still: &Still, bytes: &[u8; 65536]) -> bool {
+        let n = still.count();
+        self.y(still) == &bytes[..256 * n]
+            && self.u(still) == &bytes[256 * n..320 * n]
+            && self.v(still) == &bytes[320 * n..384 * n]
     }
-}
-
-// Draws the still of n macroblocks, then its macroblocks by themselves.
-fn print_verdicts(rt: &impl Print, still: &[u8], planes: &[u8], n: usize) -> io::Result<()>
-    requires { n ≤ 22 }
-{
-    let mut y = [0u8; 5632];
-    let mut u = [0u8; 1408];
-    let mut v = [0u8; 1408];
-    let mut clipped = [0u64; 1];
-    let drawn = agrees(still, planes, n, &mut y, &mut u, &mut v, &mut clipped);
-    print_verdict(rt, ": ", drawn)?;
-    let loose = loose::judge(
-        still,
-        n,
-        part(&y, 0, 256 * n),
-        part(&u, 0, 64 * n),
-        part(&v, 0, 64 * n),
-        clipped[0],
-    );
-    print_verdict(rt, "; loose: ", loose.equal)?;
-    print_verdict(rt, "; one damaged: ", loose.damaged_equal)?;
-    println!(rt)
-}
-
-fn replay_into(
-    rt: &(impl Files + Print + Eprint + Alloc),
-    name: &str,
-    planes_name: &str,
-    still: &mut [u8],
-    planes: &mut [u8],
-) -> io::Result<()> {
-    let still_length = read(rt, name, still)?;
-    let planes_length = read(rt, planes_name, planes)?;
-    print!(rt; "{name}")?;
-    print_sizes(rt, still)?;
-    print_checksum(rt, part(still, 0, still_length))?;
-    print_checksum(rt, part(planes, 0, planes_length))?;
-    let n = macroblocks(still_length, planes_length);
-    print_verdicts(rt, still, planes, n)
-}
-
-pub fn replay(
-    rt: &(impl Files + Print + Eprint + Alloc),
-    name: &str,
-    planes_name: &str,
-) -> io::Result<()> {
-    let mut still = [0u8; 65536];
-    let mut planes = [0u8; 65536];
-    replay_into(rt, name, planes_name, &mut still, &mut planes)
 }

@@ -1,13 +1,16 @@
--- The test for AC coefficients: a turn of its loop, and what it says where it holds: the transform is its DC-only form. Assumes nothing.
+-- The test for AC coefficients: as the machine makes it, and what it says where it holds: the transform is its DC-only form. Assumes nothing.
 use mathlib.Core.Bool.{Bool, true, false}
+use Rattle.std.specs.Prelude.{◌&&◌}
+use Rattle.std.specs.List.{list_all}
 use mathlib.Core.Logic.{⊎_elim}
 use mathlib.Core.Path.{◌≡◌, refl, sym, ap, ◌∙◌}
-use mathlib.Core.List.{List}
-use Prim.Native.Nat.{ℕ, zero, suc, ◌+◌, ◌<◌}
+use mathlib.Core.List.{List, [], ◌∷◌, ◌++◌}
+use Prim.Native.Nat.{ℕ, zero, suc, ◌+◌, ◌<◌, ◌≤◌}
+use lib.ListN.{length, get_or, take, drop, length-drop}
+use lib.Seq.{take-suc, get_or-drop}
 use native.Mathlib.Nat.{eq-or-lt_of_le, le_of_suc-le-suc, not-suc-le-zero}
-use native.Mathlib.Numerals.{add-one}
 use native.Mathlib.Omega.{arith}
-use borrow.Author.Tests.{eq-eqb, ne_eqb}
+use borrow.Author.Tests.{ne_eqb}
 use lib.Dec.{eqb, eqb→eq}
 use lib.IntN.{ℤ, pos, negsuc, nat_abs}
 use lib.Signed.{mag}
@@ -20,31 +23,43 @@ use Rattle.rfc6386.specs.Dct.{entry, idct, idct_dc}
 use Rattle.rfc6386.proofs.DctDc.{dc-only-is-full}
 use Rattle.residue.specs.Answer.{zeros_to, ac_free}
 
--- a number of 16 bits is 0 where its bits are
-bits-zero : (z : ℤ) → mag z < 32768 → of_z w16 z ≡ 0 → nat_abs z ≡ 0
-bits-zero (pos n) h e = e
-bits-zero (negsuc n) h e = omega arith
+-- the machine's test of a number of 16 bits
+abbrev pub zero-test : ℤ → Bool
+zero-test z = eqb (of_z w16 z) 0
 
-zero_bits : (z : ℤ) → nat_abs z ≡ 0 → of_z w16 z ≡ 0
-zero_bits (pos n) e = e
-zero_bits (negsuc n) e = omega arith
+tested : (z : ℤ) → mag z < 32768 → zero-test z ≡ eqb (nat_abs z) 0
+tested (pos n) h = refl
+tested (negsuc n) h = rw (ne_eqb (of_z w16 (negsuc n)) 0 (λ e. omega arith), ne_eqb (suc n) 0 (λ e. omega arith)) refl
 
-both-true-right : (b : Bool) → b ≡ both b true
-both-true-right true = refl
-both-true-right false = refl
+all-snoc : (xs : List ℤ) (z : ℤ) → list_all zero-test (xs ++ (z ∷ [])) ≡ both (list_all zero-test xs) (zero-test z)
+all-snoc [] z = by (zero-test z)
+  where
+    by : (b : Bool) → (b && true) ≡ b
+    by true = refl
+    by false = refl
+all-snoc (x ∷ xs) z = by (zero-test x) (all-snoc xs z)
+  where
+    by : (b : Bool) → list_all zero-test (xs ++ (z ∷ [])) ≡ both (list_all zero-test xs) (zero-test z)
+        → (b && list_all zero-test (xs ++ (z ∷ []))) ≡ both (b && list_all zero-test xs) (zero-test z)
+    by true e = e
+    by false e = refl
 
-both-false-right : (b : Bool) → false ≡ both b false
-both-false-right true = refl
-both-false-right false = refl
+-- the fifteen coefficients after the first, tested one after another
+module _ (l : List ℤ) (n : length l ≡ 16) (m : (k : ℕ) → mag (entry l k) < 32768) where
+  abbrev others : List ℤ
+  others = drop 1 l
 
-module _ (l : List ℤ) (k : ℕ) (m : mag (entry l (k + 1)) < 32768) where
-  pub still-free : (free : Bool) → free ≡ zeros_to k l → of_z w16 (entry l (k + 1)) ≡ 0 → free ≡ zeros_to (k + 1) l
+  front : (k : ℕ) → k ≤ 15 → list_all zero-test (take k others) ≡ zeros_to k l
   unfolding zeros_to
-  still-free free e h = e ∙ rw (add-one k, eq-eqb (nat_abs (entry l (k + 1))) 0 (bits-zero (entry l (k + 1)) m h)) (both-true-right (zeros_to k l))
+  front zero h = refl
+  front (suc k) h =
+      let long : length others ≡ 15 = length-drop 1 l ∙ omega arith in
+      let e : get_or others k (pos 0) ≡ entry l (k + 1) = get_or-drop 1 l k (pos 0) ∙ ap (λ (i : ℕ). entry l i) (omega arith) in
+      ap (list_all zero-test) (take-suc others k (pos 0) (omega arith)) ∙ all-snoc (take k others) (get_or others k (pos 0))
+      ∙ rw (front k (omega arith), e, tested (entry l (k + 1)) (m (k + 1))) refl
 
-  pub not_free : (of_z w16 (entry l (k + 1)) ≡ 0 → ⊥) → false ≡ zeros_to (k + 1) l
-  unfolding zeros_to
-  not_free h = rw (add-one k, ne_eqb (nat_abs (entry l (k + 1))) 0 (λ e. h (zero_bits (entry l (k + 1)) e))) (both-false-right (zeros_to k l))
+  pub zeros-tested : list_all zero-test (take 15 others) ≡ zeros_to 15 l
+  zeros-tested = front 15 (omega arith)
 
 zero_is : (z : ℤ) → nat_abs z ≡ 0 → z ≡ pos 0
 zero_is (pos n) e = ap pos e

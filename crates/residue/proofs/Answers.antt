@@ -12,8 +12,7 @@ use Rattle.rfc6386.specs.Dct.{idct}
 use Rattle.rfc6386.specs.Residue.{summed, lies, added_at}
 use Rattle.clipping.specs.Clipped.{block_clipped, clipped_at}
 use Rattle.residue.specs.declared.Summed.{Summed}
-use Rattle.residue.specs.declared.plane.AddedInto.{AddedInto}
-use Rattle.residue.specs.Answer.{summed_block, same_lengths, residue_reply, residue_added, add_reply, added_into, add_clipped, added_reply}
+use Rattle.residue.specs.Answer.{AddedInto, summed_block, same_lengths, residue_reply, residue_added, add_reply, added_into, add_clipped, added_reply}
 
 module _ (p : List ℕ) (r : List ℤ) where
   pub block-given : {ys : List ℕ} {n : ℕ} → ys ≡ summed 16 p r → n ≡ block_clipped 16 p r

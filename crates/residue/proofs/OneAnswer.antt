@@ -1,5 +1,9 @@
 -- Each promise of `residue` admits one answer only, and leaves one thing only in what was lent. Assumes nothing.
+use mathlib.Core.Path.{refl}
 use Rattle.lists.proofs.Answer.{OneAnswer, OneAnswerIn, same}
+use Rattle.macroblock.specs.Reply.{reply_of}
+use Rattle.macroblock.proofs.Refusals.{one_answer}
+use Rattle.residue.specs.Answer.{told}
 use Rattle.residue.proofs.sum.Reads as sum
 use Rattle.residue.proofs.sum.Kinds as sum-k
 use Rattle.residue.proofs.add_residue_4x4.Reads as add-residue-4x4
@@ -16,7 +20,8 @@ pub add-residue-4x4-one : OneAnswer 0 add-residue-4x4-k.ps add-residue-4x4-k.r a
 add-residue-4x4-one κs a x y s t = same
 
 pub add-residue-one : OneAnswerIn 3 add-residue-k.ps add-residue-k.r add-residue.Post (λ κs s. s.1.1.0.now)
-add-residue-one κs a x y s t p q = (same p.0 q.0, same p.1 q.1)
+add-residue-one κs a x y s t p q = (one_answer reply_of (λ n. n) (λ n. record {}) (λ n. refl) (λ n. refl) (λ e. refl) x y (same p.0 q.0), same p.1 q.1)
 
 pub inverse-dct-4x4-add-into-one : OneAnswerIn 1 add-into-k.ps add-into-k.r add-into.Post (λ κs s. s.1.0.now)
-inverse-dct-4x4-add-into-one κs a x y s t p q = (same p.0 q.0, same p.1 q.1)
+inverse-dct-4x4-add-into-one κs a x y s t p q =
+    (one_answer told (λ w. w.reply) (λ w. w.clipped) (λ n. refl) (λ n. refl) (λ e. refl) x y (same p.0 q.0), same p.1 q.1)

@@ -1,12 +1,12 @@
 -- What the functions of `residue` answer, and what they leave in what was lent to them.
-use Rattle.std.specs.Prelude.{ℕ, zero, suc, ◌+◌, ◌*◌, Bool, true, List, eqb, ℤ, nat_abs, length}
+use Rattle.std.specs.Prelude.{ℕ, zero, suc, ◌+◌, ◌*◌, Bool, true, List, eqb, ℤ, nat_abs, length, Result, Ok, Err}
 use Rattle.lists.specs.Lists.{both, pick}
-use Rattle.macroblock.specs.Reply.{done, wrong_length, outside_plane}
+use Rattle.macroblock.specs.Reply.{done, wrong_length, outside_plane, number}
+use Rattle.macroblock.specs.declared.reply.Refusal.{Refusal}
 use Rattle.rfc6386.specs.Dct.{entry, idct}
 use Rattle.rfc6386.specs.Residue.{summed, lies, added_at}
 use Rattle.clipping.specs.Clipped.{block_clipped, clipped_at}
 use Rattle.residue.specs.declared.Summed.{Summed}
-use Rattle.residue.specs.declared.plane.AddedInto.{AddedInto}
 
 -- ---- `add_residue_4x4`: the sixteen pixels, and how many of the sums were clipped
 unfoldable pub summed_block : List ℕ → List ℤ → Summed
@@ -33,6 +33,16 @@ added_into input stride r c l = pick (lies (length l) stride r c) (added_at (4 *
 -- how many of the block's sums were clipped: a refused block counts nothing
 unfoldable pub add_clipped : List ℤ → ℕ → ℕ → ℕ → List ℕ → ℕ
 add_clipped input stride r c l = pick (lies (length l) stride r c) (clipped_at (4 * r * stride + 4 * c) stride (idct input) l) 0
+
+-- the reply, beside the count
+pub record AddedInto : Type 0 where
+  pub reply : ℕ
+  pub clipped : ℕ
+
+-- what an answer says
+abbrev pub told : Result ℕ Refusal → AddedInto
+told (Ok n) = record { reply = done; clipped = n }
+told (Err e) = record { reply = number e; clipped = 0 }
 
 unfoldable pub added_reply : List ℤ → ℕ → ℕ → ℕ → List ℕ → AddedInto
 added_reply input stride r c l = record { reply = add_reply (length l) stride r c; clipped = add_clipped input stride r c l }

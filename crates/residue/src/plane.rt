@@ -8,9 +8,10 @@ ghost use Rattle.std.specs.Prelude.{◌≡◌, ◌+◌, ◌*◌, ◌≤◌, leng
 ghost use Rattle.rfc6386.specs.Dct.{idct_dc};
 ghost use Rattle.rfc6386.specs.Residue.{lies, added_at};
 ghost use Rattle.clipping.specs.Clipped.{clipped_at};
-ghost use Rattle.residue.specs.Answer.{ac_free, added_reply, added_into};
+ghost use Rattle.residue.specs.Answer.{ac_free, added_reply, added_into, told};
 
 use crate::sum;
+use macroblock::Refusal;
 
 // Whether the block lies in a plane of n bytes. No step wraps: where the rule multiplies, the code divides.
 fn block_lies(n: usize, stride: usize, sub_row: usize, sub_col: usize) -> bool
@@ -40,20 +41,14 @@ fn block_lies(n: usize, stride: usize, sub_row: usize, sub_col: usize) -> bool
 fn ac_free(input: [i16; 16]) -> bool
     ensures { result ≡ ac_free input }
 {
-    let mut free = true;
-    for k in 0..15 {
-        if input[k + 1] != 0 {
-            free = false;
-        }
-    }
-    free
+    input[1..].iter().all(|x| *x == 0)
 }
 
 // The residue of a block whose only coefficient that is not 0 is its first.
 fn dc_only(dc: i16) -> [i16; 16]
     ensures { result ≡ idct_dc dc }
 {
-    let v = whole::narrow((whole::widen(dc) + 4) >> 3);
+    let v = whole::narrow((i32::from(dc) + 4) >> 3);
     [v; 16]
 }
 
@@ -62,6 +57,7 @@ fn add_rows(part: &mut [u8], stride: usize, residue: [i16; 16])
     requires { 3 * stride + 4 ≤ length part.old }
     ensures { part.new ≡ added_at 0 stride residue part.old }
 {
+    // Kept: no plainer, since pixel i lies at j.
     for i in 0..16 {
         let j = i / 4 * stride + i % 4;
         part[j] = sum(part[j], residue[i]);
@@ -74,9 +70,10 @@ fn clipped_rows(part: &[u8], stride: usize, residue: [i16; 16]) -> u32
     ensures { result ≡ clipped_at 0 stride residue part.now }
 {
     let mut n = 0u32;
+    // Kept: no plainer, as in the row writer. One loop for both would count sums of sums where the stride is below 4.
     for i in 0..16 {
         let j = i / 4 * stride + i % 4;
-        n = n + clipping::over(part[j], residue[i]);
+        n += clipping::over(part[j], residue[i]);
     }
     n
 }
@@ -92,42 +89,27 @@ fn add_counted(part: &mut [u8], stride: usize, residue: [i16; 16]) -> u32
     n
 }
 
-// A reply, and how many of the block's sixteen sums were below 0 or above 255: 0 where the block is refused.
-#[derive(Clone, Copy)]
-pub struct AddedInto {
-    pub reply: u32,
-    pub clipped: u32,
-}
-
-// The block of sub-block row sub_row and column sub_col, with its residue added. Without AC coefficients the residue is one
-// number and needs no transform. Reply 2, and the plane untouched, unless the block lies in the plane.
+// The block of sub-block row sub_row and column sub_col, with its residue added, and how many of its sixteen sums were below
+// 0 or above 255. Without AC coefficients the residue is one number and needs no transform. Refused (2), and the plane
+// untouched, unless the block lies in the plane.
 pub fn inverse_dct_4x4_add_into(
     input: [i16; 16],
     plane: &mut [u8],
     stride: usize,
     sub_row: usize,
     sub_col: usize,
-) -> AddedInto
-    ensures { (result ≡ added_reply input stride sub_row sub_col plane.old)
+) -> Result<u32, Refusal>
+    ensures { (told result ≡ added_reply input stride sub_row sub_col plane.old)
         × (plane.new ≡ added_into input stride sub_row sub_col plane.old) }
 {
     if block_lies(plane.len(), stride, sub_row, sub_col) {
         let at = 4 * sub_row * stride + 4 * sub_col;
         if ac_free(input) {
             let clipped = add_counted(&mut plane[at..], stride, dc_only(input[0]));
-            return AddedInto {
-                reply: macroblock::reply::DONE,
-                clipped,
-            };
+            return Ok(clipped);
         }
         let clipped = add_counted(&mut plane[at..], stride, dct::inverse_dct_4x4(input));
-        return AddedInto {
-            reply: macroblock::reply::DONE,
-            clipped,
-        };
+        return Ok(clipped);
     }
-    AddedInto {
-        reply: macroblock::reply::OUTSIDE_PLANE,
-        clipped: 0,
-    }
+    Err(Refusal::OutsidePlane)
 }

@@ -13,8 +13,7 @@ use Rattle.rfc6386.specs.Picture.{place_ok, luma_ok}
 use Rattle.picture_limits.specs.Place.{Placed}
 use Rattle.picture_limits.proofs.Accepted.{Within, place-says, place-true}
 use Rattle.picture_limits.proofs.Bounds.{above, placed}
-use Rattle.right_pixels.specs.declared.RightPixels.{RightPixels}
-use Rattle.right_pixels.specs.Answers.{row_ok, right_pixels}
+use Rattle.right_pixels.specs.Answers.{RightPixels, row_ok, right_pixels}
 
 module _ (w h r : ℕ) where
   pub row-says : row_ok w h r ≡ true → (1 ≤ r) × Within w h 0 r

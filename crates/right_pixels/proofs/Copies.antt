@@ -11,8 +11,7 @@ use Rattle.lists.proofs.Table.{table_at}
 use Rattle.macroblock.specs.Reply.{done, wrong_length, outside_picture}
 use Rattle.rfc6386.specs.Picture.{pixel_of, row_above}
 use Rattle.picture_limits.proofs.Accepted.{Within}
-use Rattle.right_pixels.specs.declared.RightPixels.{RightPixels}
-use Rattle.right_pixels.specs.Answers.{last_above, refused, right_pixels}
+use Rattle.right_pixels.specs.Answers.{RightPixels, last_above, refused, right_pixels}
 use Rattle.right_pixels.proofs.Accepted.{row-true, row-false, row-placed, ends}
 
 -- the last pixel of the row above is the last of the sixteen above the last macroblock

@@ -1,9 +1,14 @@
 -- The four pixels above right of the last column of macroblock row r, in a picture w macroblocks wide and h high, from its luma plane y.
-use Rattle.std.specs.Prelude.{ℕ, ◌+◌, ◌-◌, ◌*◌, Bool, List, ltb, length, get_or, replicate}
+use Rattle.std.specs.Prelude.{ℕ, ◌+◌, ◌-◌, ◌*◌, Bool, List, ltb, length, get_or, replicate, Result, Ok, Err}
 use Rattle.lists.specs.Lists.{pick, both}
-use Rattle.macroblock.specs.Reply.{done, wrong_length, outside_picture}
+use Rattle.macroblock.specs.Reply.{done, wrong_length, outside_picture, number}
+use Rattle.macroblock.specs.declared.reply.Refusal.{Refusal}
 use Rattle.rfc6386.specs.Picture.{place_ok, luma_ok}
-use Rattle.right_pixels.specs.declared.RightPixels.{RightPixels}
+
+-- a reply beside the four pixels
+pub record RightPixels : Type 0 where
+  pub reply : ℕ
+  pub pixels : List ℕ
 
 -- each side 1 to 1,024, and a row of the picture that is not its first
 unfoldable pub row_ok : ℕ → ℕ → ℕ → Bool
@@ -23,3 +28,8 @@ right_pixels y w h r =
     pick (row_ok w h r)
     (pick (luma_ok (length y) w h) (record { reply = done; pixels = replicate 4 (last_above y w r) }) (refused wrong_length))
     (refused outside_picture)
+
+-- what the call tells: the four pixels, or why they are refused
+abbrev pub told : Result (List ℕ) Refusal → RightPixels
+told (Ok pixels) = record { reply = done; pixels = pixels }
+told (Err e) = refused (number e)

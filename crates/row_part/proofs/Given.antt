@@ -1,11 +1,9 @@
 -- A row's part of a plane: it is given exactly where its three conditions hold, and is then the count pixels from there on, else empty.
--- The code divides where the definition multiplies: `row_fits` and `row-passes` say that this is the same.
 -- Assumes nothing.
-use Prim.Native.Nat.{ℕ, ◌+◌, ◌-◌, ◌*◌, ◌/◌, ◌<◌, ◌≤◌}
+use Prim.Native.Nat.{ℕ, ◌+◌, ◌*◌, ◌<◌, ◌≤◌}
 use mathlib.Core.Bool.{Bool, true, false}
 use mathlib.Core.Path.{◌≡◌}
 use mathlib.Core.List.{List, []}
-use native.Mathlib.Nat.{le-div_iff_mul-le}
 use native.Mathlib.Omega.{arith}
 use lib.Dec.{leb, leb→le, le→leb}
 use lib.ListN.{length, get_or, take, drop, length-drop}
@@ -48,20 +46,6 @@ module _ (n s r c k : ℕ) where
   pub is-given : 1 ≤ k → c + k ≤ s → r * s + c + k ≤ n → true ≡ given n s r c k
   unfolding given
   is-given p q t = both_true A (both B C) (le→leb _ _ p) (true-T (both_true B C (le→leb _ _ q) (le→leb _ _ t)))
-
-  -- the row fits exactly where the quotient says so
-  pub row_fits : 1 ≤ k → c + k ≤ s → c + k ≤ n → r ≤ (n - (c + k)) / s → r * s + c + k ≤ n
-  row_fits p q t h =
-      let z : 0 < s = omega arith in
-      let m : r * s ≤ n - (c + k) = (le-div_iff_mul-le z).0 h in
-      omega arith
-
-  pub row-passes : 1 ≤ k → c + k ≤ s → (n - (c + k)) / s < r → r * s + c + k ≤ n → ⊥
-  row-passes p q h t =
-      let z : 0 < s = omega arith in
-      let m : r * s ≤ n - (c + k) = omega arith in
-      let w : r ≤ (n - (c + k)) / s = (le-div_iff_mul-le z).1 m in
-      omega arith
 
 -- where the three conditions hold, the part is the count pixels from there on
 module _ (l : List ℕ) (s r c k : ℕ) (p : 1 ≤ k) (q : c + k ≤ s) (t : r * s + c + k ≤ length l) where

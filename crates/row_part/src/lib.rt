@@ -13,32 +13,22 @@ pub fn row_part(plane: &[u8], stride: usize, row: usize, col: usize, count: usiz
 {
     if part_given(plane.len(), stride, row, col, count) {
         let at = row * stride + col;
-        let end = at + count;
-        return &plane[at..end];
+        return &plane[at..at + count];
     }
     &plane[0..0]
 }
 
-// Whether a plane of `size` bytes has the part. Exact in whole numbers without bound: row * stride need not fit a machine
-// word, so the rows that the plane holds after the first are divided out and compared.
+// Whether a plane of `size` bytes has the part. Exact in whole numbers without bound: where a sum or a product passes the end
+// of a machine word the plane does not have it.
+#[tactic(auto, unfolding(rfc6386::specs::Picture::given))]
 fn part_given(size: usize, stride: usize, row: usize, col: usize, count: usize) -> bool
     ensures { result ≡ given size stride row col count }
 {
-    if count == 0 {
-        return false;
-    }
-    if stride < count {
-        return false;
-    }
-    if stride - count < col {
-        return false;
-    }
-    let end = col + count;
-    if size < end {
-        return false;
-    }
-    if (size - end) / stride < row {
-        return false;
-    }
-    true
+    count >= 1
+        && col.checked_add(count).is_some_and(|end| end <= stride)
+        && row
+            .checked_mul(stride)
+            .and_then(|at| at.checked_add(col))
+            .and_then(|at| at.checked_add(count))
+            .is_some_and(|end| end <= size)
 }

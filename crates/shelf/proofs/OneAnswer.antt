@@ -11,8 +11,11 @@ use denote.Triple.Clauses.{AtExit}
 use types.Logic.{Logic}
 use prog.Memory.{Memory}
 use prog.Routine.{Routine}
+use Rattle.std.specs.Prelude.{Result}
 use Rattle.lists.proofs.Answer.{OneAnswerIn}
 use Rattle.lists.proofs.Pairs.{same-pair}
+use Rattle.macroblock.specs.declared.reply.Refusal.{Refusal}
+use Rattle.shelf_items.proofs.OneAnswer.{once}
 use Rattle.shelf.specs.contracts.shelf as shelf
 use Rattle.shelf.proofs.shelf_few.Reads as few
 use Rattle.shelf.proofs.shelf_few.Kinds as few-k
@@ -21,17 +24,19 @@ use Rattle.shelf.proofs.shelf_few.Kinds as few-k
 -- are the same
 module _ {M : Type 1} {𝓤 : Ura M} (𝓛 : Logic 𝓤) (mem : Memory → SProp 𝓤) (run : Routine → Fun 𝓤) (κs : Lfts 6)
     (a : ArgsD shelf.signature κs) where
-  abbrev said : ℕ → AtExit shelf.ended κs → SProp 𝓤
+  abbrev said : Result (Unit {0}) Refusal → AtExit shelf.ended κs → SProp 𝓤
   said r s = (shelf.clauses 𝓛 mem run κs a).ensures tt r s
 
   abbrev left : AtExit shelf.ended κs → List ℕ × (List ℕ × List ℕ)
   left s = (s.1.1.1.0.now, (s.1.1.1.1.0.now, s.1.1.1.1.1.0.now))
 
-  pub shelf-one : (x y : ℕ) (s t : AtExit shelf.ended κs) → ent 𝓤 (sep 𝓤 (said x s) (said y t)) (fact 𝓤 ((x ≡ y) × (left s ≡ left t)))
+  pub shelf-one : (x y : Result (Unit {0}) Refusal) (s t : AtExit shelf.ended κs) → ent 𝓤 (sep 𝓤 (said x s) (said y t)) (fact 𝓤 ((x ≡ y) × (left s ≡ left t)))
   shelf-one x y s t =
       fact_use 𝓤 _ (fst∗ 𝓤 (said x s) (said y t))
-      λ p. fact_use 𝓤 _ (snd∗ 𝓤 (said x s) (said y t)) λ q. fact_i 𝓤 _ _ (same-pair p q)
+      λ p. fact_use 𝓤 _ (snd∗ 𝓤 (said x s) (said y t)) λ q. fact_i 𝓤 _ _ (let e = same-pair p q in (once x y e.0, e.1))
 
 pub shelf-few-one : OneAnswerIn 5 few-k.ps few-k.r few.Post {A = List ℕ × (List ℕ × List ℕ)}
     (λ κs s. (s.1.1.1.1.0.now, (s.1.1.1.1.1.0.now, s.1.1.1.1.1.1.0.now)))
-shelf-few-one κs a x y s t = same-pair
+shelf-few-one κs a x y s t p q =
+    let e = same-pair p q in
+    (once x y e.0, e.1)

@@ -5,14 +5,16 @@
 ghost use Rattle.std.specs.Prelude.{◌≡◌};
 ghost use Rattle.lists.specs.Lists.{◌beside◌};
 ghost use Rattle.shelf_items.specs.Shelf.{shelf_answer, few_answer};
-ghost use Rattle.shelf.specs.Few.{at_most32};
+ghost use Rattle.macroblock.specs.Reply.{reply_of};
 
+use macroblock::Refusal;
 use shelf_items::{Job, begin, put_job};
 
 // Each job with its sixteen sub-block bytes and its 400 coefficients, of which luma mode B skips the first 16: 384 bytes and a
 // reply an item, and into `clipped`, a slice of 1, how many sums of all of them were below 0 or above 255. Refused: any list
 // whose length does not fit the jobs (reply 1, nothing written). An item refuses by its own reply and 384 zeros: 8, in luma
 // mode B, for a sub-block byte that says nothing.
+// Kept: lists beside the jobs, as `shelf_answer` has them and `bytes-are-jobs` compares them with those of the C call.
 pub fn shelf(
     jobs: &[Job],
     sub_modes: &[u8],
@@ -20,34 +22,26 @@ pub fn shelf(
     out: &mut [u8],
     replies: &mut [u8],
     clipped: &mut [u64],
-) -> u32
-    ensures { (result beside out.new beside replies.new beside clipped.new)
+) -> Result<(), Refusal>
+    ensures { (reply_of result beside out.new beside replies.new beside clipped.new)
         ≡ shelf_answer jobs.now sub_modes.now coeffs.now out.old replies.old clipped.old }
 {
-    let plan = begin(
+    begin(
         jobs.len(),
         sub_modes.len(),
         coeffs.len(),
         out.len(),
         replies.len(),
         clipped,
-    );
-    let items = plan.items;
-    let mut i = 0;
-    while i < items {
-        put_job(jobs[i], sub_modes, coeffs, out, replies, clipped, i);
-        i += 1;
+    )?;
+    for (i, job) in jobs.iter().enumerate() {
+        put_job(*job, sub_modes, coeffs, out, replies, clipped, i);
     }
-    plan.reply
-}
-
-fn at_most_32(count: usize) -> usize
-    ensures { result ≡ at_most32 count }
-{
-    if count < 32 { count } else { 32 }
+    Ok(())
 }
 
 // The same for the first `count` of 32 jobs, by value; for all of them where `count` is more.
+// Kept: an array with a count beside it, as docs/PROMISES.md promises; `shelf` takes a slice.
 pub fn shelf_few(
     jobs: [Job; 32],
     count: usize,
@@ -56,10 +50,16 @@ pub fn shelf_few(
     out: &mut [u8],
     replies: &mut [u8],
     clipped: &mut [u64],
-) -> u32
-    ensures { (result beside out.new beside replies.new beside clipped.new)
+) -> Result<(), Refusal>
+    ensures { (reply_of result beside out.new beside replies.new beside clipped.new)
         ≡ few_answer jobs count sub_modes.now coeffs.now out.old replies.old clipped.old }
 {
-    let n = at_most_32(count);
-    shelf(&jobs[..n], sub_modes, coeffs, out, replies, clipped)
+    shelf(
+        &jobs[..count.min(32)],
+        sub_modes,
+        coeffs,
+        out,
+        replies,
+        clipped,
+    )
 }

@@ -1,22 +1,39 @@
 -- An item as it is drawn, from the parts of the lists that its turn reads. Assumes nothing.
 use Prim.Native.Nat.{ℕ, ◌+◌, ◌-◌, ◌*◌, ◌≤◌}
-use mathlib.Core.Path.{◌≡◌}
+use mathlib.Core.Path.{◌≡◌, refl, sym, ap, ◌∙◌}
 use mathlib.Core.Bool.{true}
-use mathlib.Core.List.{List}
+use mathlib.Core.List.{List, [], ◌∷◌}
+use native.Mathlib.Nat.{add-zero}
+use native.Mathlib.Omega.{arith}
+use borrow.Rule.Slice.PartMut.{mid_of}
 use lib.IntN.{ℤ}
-use lib.ListN.{length, get_or, take, drop}
-use Rattle.slices.specs.Copies.{or_zeros}
+use lib.ListN.{length, get_or, take, drop, replicate}
+use Rattle.slices.specs.Copies.{or_zeros, cleared, put_in}
 use Rattle.lists.specs.Lists.{item_of}
-use Rattle.slices.proofs.Parts.{part-is, part-whole}
-use Rattle.reconstruct.specs.declared.ReconstructedMb.{ReconstructedMb}
+use Rattle.slices.proofs.Copied.{put_fit}
+use Rattle.slices.proofs.Parts.{part-is, part_length, part-whole}
+use Rattle.reconstruct.specs.Answers.{MbAnswer}
 use Rattle.drawing.specs.Drawn.{drawn_with, drawn_bytes}
 use Rattle.drawing.proofs.Shape.{Shape, with-shape}
 use Rattle.drawing.proofs.Shape.{bytes-shape as item-shape}
 use Rattle.shelf_items.specs.declared.Job.{Job}
 use Rattle.shelf_items.specs.Shelf.{no_job, job_drawn, job_at, bytes_at}
 
+-- ---- what a refused item leaves
+pub part-cleared : (n at : ℕ) (l to : List ℕ) → at + n ≤ length l → to ≡ cleared (mid_of at (at + n - at) l)
+    → to ≡ put_in n (replicate n 0) (mid_of at (at + n - at) l)
+unfolding cleared
+part-cleared n at l to h e =
+    let size : length (mid_of at (at + n - at) l) ≡ n = ap (λ (m : List ℕ). length m) (part-is n at l) ∙ part_length n at l h in
+    rw size at e ∙ sym (put_fit n (replicate n 0) (mid_of at (at + n - at) l) size)
+
+pub one-kept : (l : List ℕ) → length l ≡ 1 → l ≡ (get_or l 0 0 + 0) ∷ []
+one-kept [] e = absurd (omega (arith, e))
+one-kept (a ∷ []) e = rw add-zero refl
+one-kept (a ∷ b ∷ l) e = absurd (omega (arith, e))
+
 -- ---- a job
-pub job-drawn : (job : Job) (subs : List ℕ) (coeffs : List ℤ) (i : ℕ) (s : List ℕ) (r : ReconstructedMb) → 16 * i + 16 ≤ length subs
+pub job-drawn : (job : Job) (subs : List ℕ) (coeffs : List ℤ) (i : ℕ) (s : List ℕ) (r : MbAnswer) → 16 * i + 16 ≤ length subs
     → s ≡ or_zeros 0 16 (take (16 * i + 16 - 16 * i) (drop (16 * i) subs))
     → r ≡ drawn_with job.modes s true job.neighbors (take (400 * i + 400 - 400 * i) (drop (400 * i) coeffs))
     → r ≡ job_drawn job subs coeffs i
@@ -32,7 +49,7 @@ unfolding job_at
 jobs-shape jobs subs coeffs k = job-shape (get_or jobs k no_job) subs coeffs k
 
 -- ---- bytes
-pub bytes-drawn : (modes records subs : List ℕ) (coeffs : List ℤ) (i : ℕ) (b s : List ℕ) (r : ReconstructedMb) → 81 * i + 81 ≤ length records
+pub bytes-drawn : (modes records subs : List ℕ) (coeffs : List ℤ) (i : ℕ) (b s : List ℕ) (r : MbAnswer) → 81 * i + 81 ≤ length records
     → 16 * i + 16 ≤ length subs
     → b ≡ or_zeros 0 81 (take (81 * i + 81 - 81 * i) (drop (81 * i) records))
     → s ≡ or_zeros 0 16 (take (16 * i + 16 - 16 * i) (drop (16 * i) subs))

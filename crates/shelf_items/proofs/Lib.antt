@@ -1,12 +1,10 @@
 -- Laws for the functions of `shelf_items`, and for the loops over its items.
---     Lengths       a list of n items by its length, tested by a quotient and a remainder
 --     Turns         what the first k items make of the lists that are written, and what stands at the end
 --     Answered      from the test of the lengths to the answer
 --     Places        the test of an item's places, and what it says
---     Drawn         an item as it is drawn, from the parts of the lists that its turn reads
+--     Items         an item as it is drawn, from the parts of the lists that its turn reads
 --     Told          the answer of a shelf of bytes
 --     OneAnswer     each public promise admits one answer only
-pub mod Lengths
 pub mod Turns
 pub mod Answered
 pub mod Places

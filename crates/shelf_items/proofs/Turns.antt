@@ -15,7 +15,7 @@ use lib.Seq.{take_at, drop_at, drop-drop, drop-length}
 use Rattle.lists.specs.Lists.{table, turns, store, both, total, joined}
 use Rattle.lists.proofs.Table.{table-all}
 use Rattle.lists.proofs.Tests.{left-holds, right-holds}
-use Rattle.reconstruct.specs.declared.ReconstructedMb.{ReconstructedMb}
+use Rattle.reconstruct.specs.Answers.{MbAnswer}
 use Rattle.drawing.specs.Drawn.{planes_of}
 use Rattle.drawing.proofs.Shape.{Shape, planes-length}
 use Rattle.shelf_items.specs.Shelf.{lengths_fit}
@@ -52,7 +52,7 @@ joined_length w f size zero = sym (mul-zero w)
 joined_length w f size (suc n) = length-append (joined n f) (f n) ∙ rw (joined_length w f size n, size n, mul-suc w n)
 
 -- ---- what the first k items make of the lists
-module _ (item : ℕ → ReconstructedMb) where
+module _ (item : ℕ → MbAnswer) where
   unfoldable pub out_after : ℕ → List ℕ → List ℕ
   out_after k out = turns k (λ i l. put_mid (384 * i) 384 l (planes_of (item i))) out
 
@@ -87,7 +87,7 @@ module _ (item : ℕ → ReconstructedMb) where
   count_next k clipped = rw add-one
 
   -- a turn of a loop: item k was drawn as r, and put into what the items before it left
-  module _ (k : ℕ) (l m : List ℕ) {z : List ℕ} (r : ReconstructedMb) (e : r ≡ item k) where
+  module _ (k : ℕ) (l m : List ℕ) {z : List ℕ} (r : MbAnswer) (e : r ≡ item k) where
     pub out-turn : m ≡ out_after k l → z ≡ put_mid (384 * k) 384 m (planes_of r) → z ≡ out_after (k + 1) l
     out-turn p q = rw (out-next k l, ← p, ← e) q
 

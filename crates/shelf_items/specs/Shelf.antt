@@ -8,12 +8,12 @@ use Rattle.macroblock.specs.Neighbors.{absent}
 use Rattle.macroblock.specs.Reply.{done, wrong_length}
 use Rattle.macroblock.specs.declared.modes.IntraYMode.TheVariants as y
 use Rattle.macroblock.specs.declared.modes.IntraUvMode.TheVariants as uv
-use Rattle.reconstruct.specs.declared.ReconstructedMb.{ReconstructedMb}
+use Rattle.reconstruct.specs.Answers.{MbAnswer}
 use Rattle.drawing.specs.Drawn.{planes_of, drawn_with, drawn_bytes}
 use Rattle.shelf_items.specs.declared.Job.{Job}
 
 -- what n items leave: reply 0; Y, U and V of each; a reply of each; and how many sums of all of them were below 0 or above 255
-unfoldable pub shelved : ℕ → (ℕ → ReconstructedMb) → ℕ × (List ℕ × (List ℕ × List ℕ))
+unfoldable pub shelved : ℕ → (ℕ → MbAnswer) → ℕ × (List ℕ × (List ℕ × List ℕ))
 shelved n item = done beside joined n (λ k. planes_of (item k)) beside table n (λ k. (item k).reply) beside total n (λ k. (item k).clipped) ∷ []
 
 -- 16 and 400 an item to read, 384 and 1 to write, and one count
@@ -26,11 +26,11 @@ lengths_fit n subs coeffs out replies clipped =
 abbrev pub no_job : Job
 no_job = record { modes = record { y = y.Dc; uv = uv.Dc; skip = false }; neighbors = absent }
 
-unfoldable pub job_drawn : Job → List ℕ → List ℤ → ℕ → ReconstructedMb
+unfoldable pub job_drawn : Job → List ℕ → List ℤ → ℕ → MbAnswer
 job_drawn job subs coeffs k =
     drawn_with job.modes (item_of 16 k subs) true job.neighbors (item_of 400 k coeffs)
 
-unfoldable pub job_at : List Job → List ℕ → List ℤ → ℕ → ReconstructedMb
+unfoldable pub job_at : List Job → List ℕ → List ℤ → ℕ → MbAnswer
 job_at jobs subs coeffs k = job_drawn (get_or jobs k no_job) subs coeffs k
 
 unfoldable pub shelf_answer : List Job → List ℕ → List ℤ → List ℕ → List ℕ → List ℕ → ℕ × (List ℕ × (List ℕ × List ℕ))
@@ -44,7 +44,7 @@ unfoldable pub few_answer : List Job → ℕ → List ℕ → List ℤ → List 
 few_answer jobs count subs coeffs out replies clipped = shelf_answer (take count jobs) subs coeffs out replies clipped
 
 -- ---- from bytes: three mode bytes and 81 record bytes an item
-unfoldable pub bytes_at : List ℕ → List ℕ → List ℕ → List ℤ → ℕ → ReconstructedMb
+unfoldable pub bytes_at : List ℕ → List ℕ → List ℕ → List ℤ → ℕ → MbAnswer
 bytes_at modes records subs coeffs k =
     drawn_bytes (get_or modes (3 * k) 0) (get_or modes (3 * k + 1) 0) (get_or modes (3 * k + 2) 0) (item_of 16 k subs) true (item_of 81 k records) (item_of 400 k coeffs)
 

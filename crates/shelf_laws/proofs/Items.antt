@@ -11,7 +11,7 @@ use Rattle.lists.specs.Lists.{item_of, joined}
 use Rattle.lists.proofs.Table.{table-ext}
 use Rattle.lists.proofs.Pairs.{pair}
 use Rattle.lists.proofs.Total.{total_ext}
-use Rattle.reconstruct.specs.declared.ReconstructedMb.{ReconstructedMb}
+use Rattle.reconstruct.specs.Answers.{MbAnswer}
 use Rattle.drawing.specs.Drawn.{planes_of}
 use Rattle.shelf_items.specs.Shelf.{shelved}
 use Rattle.shelf_items.proofs.Turns.{joined_length}
@@ -22,13 +22,13 @@ unfolding joined
 joined-ext zero f g h = refl
 joined-ext (suc n) f g h = rw (joined-ext n f g (λ k l. h k (omega arith)), h n (omega arith))
 
-pub shelved-ext : (n : ℕ) (f g : ℕ → ReconstructedMb) → ((k : ℕ) → k < n → f k ≡ g k) → shelved n f ≡ shelved n g
+pub shelved-ext : (n : ℕ) (f g : ℕ → MbAnswer) → ((k : ℕ) → k < n → f k ≡ g k) → shelved n f ≡ shelved n g
 unfolding shelved
 shelved-ext n f g h =
     pair refl
     (pair (joined-ext n (λ k. planes_of (f k)) (λ k. planes_of (g k)) (λ k l. ap planes_of (h k l)))
-    (pair (table-ext n (λ k. (f k).reply) (λ k. (g k).reply) (λ k l. ap (λ (r : ReconstructedMb). r.reply) (h k l)))
-    (ap (λ (c : ℕ). c ∷ []) (total_ext n (λ k. (f k).clipped) (λ k. (g k).clipped) (λ k l. ap (λ (r : ReconstructedMb). r.clipped) (h k l))))))
+    (pair (table-ext n (λ k. (f k).reply) (λ k. (g k).reply) (λ k l. ap (λ (r : MbAnswer). r.reply) (h k l)))
+    (ap (λ (c : ℕ). c ∷ []) (total_ext n (λ k. (f k).clipped) (λ k. (g k).clipped) (λ k l. ap (λ (r : MbAnswer). r.clipped) (h k l))))))
 
 -- ---- the bytes of item k, where every item has w of them
 module _ (w : ℕ) (f : ℕ → List ℕ) (size : (k : ℕ) → length (f k) ≡ w) where

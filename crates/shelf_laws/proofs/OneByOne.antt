@@ -18,8 +18,7 @@ use Rattle.slices.proofs.Parts.{part_length}
 use Rattle.macroblock.specs.Reply.{unknown_byte}
 use Rattle.lists.proofs.Total.{total_ext}
 use Rattle.record_bytes.specs.Bytes.{marks_known}
-use Rattle.reconstruct.specs.declared.ReconstructedMb.{ReconstructedMb}
-use Rattle.reconstruct.specs.Answers.{refusal}
+use Rattle.reconstruct.specs.Answers.{MbAnswer, refusal}
 use Rattle.drawing.specs.Drawn.{planes_of, drawn_bytes}
 use Rattle.drawing.proofs.Shape.{planes-length}
 use Rattle.zopredil.specs.Macroblocks.{sub_modes_fit, mb_answer, lengths_fit as mb_fit}
@@ -36,10 +35,10 @@ module _ (modes records subs : List ℕ) (coeffs : List ℤ) (out clipped : List
   abbrev pub alone : ℕ × (List ℕ × List ℕ)
   alone = mb_answer (item_of 3 k modes) (item_of 16 k subs) (item_of 81 k records) (item_of 400 k coeffs) out clipped
 
-  abbrev told : ReconstructedMb → ℕ × (List ℕ × List ℕ)
+  abbrev told : MbAnswer → ℕ × (List ℕ × List ℕ)
   told r = r.reply beside planes_of r beside r.clipped ∷ []
 
-  marks-by : (b : Bool) (r : ReconstructedMb) → pick b (told r) (unknown_byte beside replicate 384 0 beside 0 ∷ []) ≡ told (pick b r (refusal unknown_byte))
+  marks-by : (b : Bool) (r : MbAnswer) → pick b (told r) (unknown_byte beside replicate 384 0 beside 0 ∷ []) ≡ told (pick b r (refusal unknown_byte))
   unfolding planes_of refusal
   marks-by true r = refl
   marks-by false r = refl

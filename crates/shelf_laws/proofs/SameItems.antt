@@ -11,8 +11,7 @@ use Rattle.lists.specs.Lists.{pick, item_of}
 use Rattle.lists.proofs.Table.{table-length, table_at}
 use Rattle.macroblock.specs.Reply.{unknown_byte}
 use Rattle.record_bytes.specs.Bytes.{marks_known}
-use Rattle.reconstruct.specs.declared.ReconstructedMb.{ReconstructedMb}
-use Rattle.reconstruct.specs.Answers.{refusal}
+use Rattle.reconstruct.specs.Answers.{MbAnswer, refusal}
 use Rattle.drawing.specs.Drawn.{modes_known, drawn_with, drawn, drawn_bytes}
 use Rattle.shelf_items.specs.declared.Job.{Job}
 use Rattle.shelf_items.specs.Shelf.{no_job, job_drawn, job_at, shelf_answer, bytes_at, bytes_answer}
@@ -38,7 +37,7 @@ module _ (modes records subs : List ℕ) (coeffs : List ℤ) (k : ℕ) where
   unfolding bytes_at drawn_bytes drawn
   unknown-mode h e = either (marks_known (item_of 81 k records)) (rw (e, eq-eqb _ _ h) refl)
     where
-      either : (b : Bool) {x : ReconstructedMb} → x ≡ refusal unknown_byte → pick b x (refusal unknown_byte) ≡ refusal unknown_byte
+      either : (b : Bool) {x : MbAnswer} → x ≡ refusal unknown_byte → pick b x (refusal unknown_byte) ≡ refusal unknown_byte
       either true p = p
       either false p = refl
 

@@ -1,19 +1,16 @@
 -- What the still calls answer: 7 for a size outside 1 to 1,024 macroblocks a side, then 1 for a slice of another length, both before anything is drawn;
 -- else the picture.
-use Rattle.std.specs.Prelude.{ℕ, ◌-◌, ◌*◌, Bool, List, eqb, ℤ, length}
+use Rattle.std.specs.Prelude.{ℕ, ◌-◌, ◌*◌, Bool, List, eqb, ℤ, length, Result, Ok, Err}
 use Rattle.lists.specs.Lists.{pick, both, ◌beside◌}
-use Rattle.macroblock.specs.Reply.{wrong_length, outside_picture}
+use Rattle.macroblock.specs.Reply.{done, wrong_length, outside_picture, number}
 use Rattle.rfc6386.specs.Picture.{size_ok, sizes_ok}
-use Rattle.still.specs.declared.StillReply.{StillReply}
+use Rattle.still.specs.declared.StillRefusal.{StillRefusal}
 use Rattle.still.specs.Picture.{Progress, progress, picture, picture_clipped, right_given, right_read}
 
--- a reply and the planes that it leaves, beside its count
-abbrev pub told : StillReply → List ℕ → List ℕ → List ℕ → Progress × ℕ
-told r y u v = progress r.reply r.index y u v beside r.clipped
-
--- a refusal before anything is drawn
-abbrev pub refusal : ℕ → StillReply
-refusal number = record { reply = number; index = 0; clipped = 0 }
+-- what a call tells, with the planes that it leaves: the count; or why it is refused, where, and the count of the finished macroblocks
+abbrev pub told : Result ℕ StillRefusal → List ℕ → List ℕ → List ℕ → Progress × ℕ
+told (Ok clipped) y u v = progress done 0 y u v beside clipped
+told (Err r) y u v = progress (number r.refusal) r.index y u v beside r.clipped
 
 -- 3, 16 and 400 an item, and the planes
 unfoldable pub lengths_ok : ℕ → ℕ → ℕ → ℕ → ℕ → ℕ → ℕ → ℕ → Bool

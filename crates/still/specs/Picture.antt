@@ -1,6 +1,7 @@
 -- A still: the macroblocks of a picture drawn one after another, in raster order, into its three planes. The first macroblock that is refused ends the
 -- drawing: its reply and its raster index are kept, with the planes as the finished ones left them.
-use Rattle.std.specs.Prelude.{ℕ, ◌+◌, ◌-◌, ◌*◌, ◌/◌, ◌%◌, Bool, List, eqb, ℤ, get_or, take, drop, replicate}
+use Rattle.std.specs.Prelude.{ℕ, ◌+◌, ◌-◌, ◌*◌, ◌/◌, ◌%◌, Bool, true, false, List, [], eqb, ℤ, get_or, take, drop, replicate, Option, Some, None}
+use denote.Bor.{Bor}
 use Rattle.lists.specs.Lists.{turns, pick, item_of, ◌beside◌, total}
 use Rattle.macroblock.specs.Reply.{done}
 use Rattle.canvas.specs.Into.{drawn_into, clipped_into}
@@ -77,3 +78,12 @@ right_read w h r y = (right_pixels y w h r).pixels
 -- read for a still that comes alone, else given
 unfoldable pub right_from : ℕ → ℕ → Bool → List ℕ → ℕ → List ℕ → List ℕ
 right_from w h alone right = pick alone (right_read w h) (right_given right)
+
+-- the right-hand pixels as the code is handed them: some, or none for a still that comes alone
+abbrev pub comes_alone : Option (Bor (List ℕ)) → Bool
+comes_alone (Some right) = false
+comes_alone None = true
+
+abbrev pub pixels_given : Option (Bor (List ℕ)) → List ℕ
+pixels_given (Some right) = right.now
+pixels_given None = []

@@ -15,8 +15,7 @@ use lib.Seq.{length-take-le, get_or-take, get_or-drop, ext_get_or}
 use Rattle.lists.specs.Lists.{table, turns}
 use Rattle.lists.proofs.Table.{table-length, table_at}
 use Rattle.picture_limits.proofs.Accepted.{Within}
-use Rattle.right_pixels.specs.Answers.{last_above, right_pixels}
-use Rattle.right_pixels.specs.declared.RightPixels.{RightPixels}
+use Rattle.right_pixels.specs.Answers.{RightPixels, last_above, right_pixels}
 use Rattle.right_pixels.proofs.Copies.{last-of-sixteen, row-refused, copies}
 use Rattle.still.specs.Picture.{Progress, drawn_at, turn, first, picture, count_at, count_in, first_clipped, picture_clipped, right_at, right_given, right_read}
 use Rattle.lists.proofs.Total.{total_ext}

@@ -14,8 +14,7 @@ use Rattle.macroblock.specs.declared.modes.MbModes.{MbModes}
 use Rattle.macroblock.specs.declared.neighbors.MbNeighbors.{MbNeighbors}
 use Rattle.lists.proofs.Total.{total-≤}
 use Rattle.clipping.proofs.Bounds.{macroblock-≤, macroblock-B-≤}
-use Rattle.reconstruct.specs.declared.ReconstructedMb.{ReconstructedMb}
-use Rattle.reconstruct.specs.Answers.{refusal, whole_of, parts_of, non_b, walk_b}
+use Rattle.reconstruct.specs.Answers.{MbAnswer, refusal, whole_of, parts_of, non_b, walk_b}
 use Rattle.rfc6386.specs.Edges.{is_b}
 use Rattle.gathering.specs.Answers.{gathered}
 use Rattle.drawing.specs.Drawn.{drawn, drawn_in, drawn_b, modes_known, modes_of, sub_modes_of, subs_known}
@@ -26,7 +25,7 @@ use Rattle.rfc6386.specs.Picture.{size_ok}
 use Rattle.still.proofs.Sizes.{size-says, at_most}
 
 -- ---- one of two that are small is small
-chosen : (b : Bool) (x y : ReconstructedMb) → x.clipped ≤ 384 → y.clipped ≤ 384 → (pick b x y).clipped ≤ 384
+chosen : (b : Bool) (x y : MbAnswer) → x.clipped ≤ 384 → y.clipped ≤ 384 → (pick b x y).clipped ≤ 384
 chosen true x y p q = p
 chosen false x y p q = q
 

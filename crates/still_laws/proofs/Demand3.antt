@@ -17,8 +17,7 @@ use Rattle.macroblock.specs.Reply.{done}
 use Rattle.macroblock.specs.declared.modes.IntraBmode.{IntraBmode}
 use Rattle.macroblock.specs.declared.neighbors.MbNeighbors.{MbNeighbors}
 use Rattle.rfc6386.specs.Walk.{block_at, seeded, y_prediction, uv_prediction, start_of, sub_prediction, walked}
-use Rattle.reconstruct.specs.declared.ReconstructedMb.{ReconstructedMb}
-use Rattle.reconstruct.specs.Answers.{non_b, walk_b}
+use Rattle.reconstruct.specs.Answers.{MbAnswer, non_b, walk_b}
 use Rattle.reconstruct.proofs.Demand3.{Blocks8191, Near, non_b-y, non_b-u, non_b-v, walk_b-y, walk_b-u, walk_b-v}
 use Rattle.drawing.specs.Drawn.{modes_of, sub_modes_of}
 use Rattle.canvas.specs.Into.{made}
@@ -41,7 +40,7 @@ module _ (w h : ℕ) (modes subs : List ℕ) (coeffs : List ℤ) (y u v : List �
   abbrev around : MbNeighbors
   around = neighbors_at w h right k before
 
-  abbrev result : ReconstructedMb
+  abbrev result : MbAnswer
   result = made_at w h modes subs coeffs right k before
 
   accepted : result.reply ≡ done

@@ -18,7 +18,7 @@ use lib.IntN.{ℤ}
 use lib.ListN.{length, get_or}
 use Rattle.lists.specs.Lists.{turns}
 use Rattle.macroblock.specs.Reply.{done}
-use Rattle.reconstruct.specs.declared.ReconstructedMb.{ReconstructedMb}
+use Rattle.reconstruct.specs.Answers.{MbAnswer}
 use Rattle.still.specs.Picture.{Progress, progress, turn, first, picture}
 use Rattle.still_laws.specs.Words.{Plane, plane_of, found_in, Outside, made_at, Finished}
 use Rattle.still_laws.proofs.Settled.{turns-settled}
@@ -29,7 +29,7 @@ zero_or_not zero = inl refl
 zero_or_not (suc n) = inr (λ e. omega arith)
 
 -- ---- one turn
-module _ {w k : ℕ} {m : ReconstructedMb} {d e : Progress} where
+module _ {w k : ℕ} {m : MbAnswer} {d e : Progress} where
   -- once refused, nothing changes
   step-refused : Step w k m d e → (d.reply ≡ 0 → ⊥) → e ≡ d
   step-refused (stays n q) h = q

@@ -14,8 +14,7 @@ use Rattle.macroblock.specs.Reply.{done, unknown_byte}
 use Rattle.macroblock.specs.declared.neighbors.MbNeighbors.{MbNeighbors}
 use Rattle.macroblock.specs.Says.{y_reply, y_mode}
 use Rattle.rfc6386.specs.Edges.{is_b}
-use Rattle.reconstruct.specs.declared.ReconstructedMb.{ReconstructedMb}
-use Rattle.reconstruct.specs.Answers.{refusal, whole_of, parts_of, non_b, walk_b}
+use Rattle.reconstruct.specs.Answers.{MbAnswer, refusal, whole_of, parts_of, non_b, walk_b}
 use Rattle.drawing.specs.Drawn.{modes_known, modes_of, drawn_b, drawn_in, drawn}
 use Rattle.gathering.specs.Answers.{gathered}
 use Rattle.canvas.specs.Into.{made, drawn_into}
@@ -26,7 +25,7 @@ use Rattle.still_laws.proofs.Walked.{mode-B, luma-known}
 
 -- ---- one macroblock
 module _ (luma chroma skip : ℕ) (subs : List ℕ) (n : MbNeighbors) (coeffs : List ℤ) (fits : length coeffs ≡ 400) where
-  abbrev answer : ReconstructedMb
+  abbrev answer : MbAnswer
   answer = drawn luma chroma skip subs true n coeffs
 
   unknown-modes : modes_known luma chroma skip ≡ false → answer.reply ≡ unknown_byte

@@ -11,8 +11,7 @@ use lib.ListN.{length}
 use Rattle.macroblock.specs.Reply.{done}
 use Rattle.rfc6386.specs.Picture.{neighbors_of}
 use Rattle.picture_limits.proofs.Accepted.{Within, Lengths, place-true, sizes-true}
-use Rattle.gathering.specs.declared.Gathered.{Gathered}
-use Rattle.gathering.specs.Answers.{gathered}
+use Rattle.gathering.specs.Answers.{Gathered, gathered}
 use Rattle.still.specs.Picture.{Progress, first}
 use Rattle.still.proofs.Sizes.{row_within}
 use Rattle.still_laws.specs.Words.{in_y, in_u, in_v, neighbors_at, Finished}

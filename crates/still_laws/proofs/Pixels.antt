@@ -17,7 +17,7 @@ use lib.IntN.{ℤ}
 use lib.ListN.{length, get_or}
 use Rattle.lists.specs.Lists.{turns}
 use Rattle.macroblock.specs.Reply.{done}
-use Rattle.reconstruct.specs.declared.ReconstructedMb.{ReconstructedMb}
+use Rattle.reconstruct.specs.Answers.{MbAnswer}
 use Rattle.picture_limits.proofs.Accepted.{Lengths}
 use Rattle.picture_limits.proofs.Bounds.{placed}
 use Rattle.canvas.specs.Placed.{pixel_at}
@@ -33,7 +33,7 @@ use Rattle.still_laws.proofs.First.{first_step, first-length, first-kept, finish
 use Rattle.still_laws.proofs.Answered.{Answered, refused, drawn, still-answered, alone-answered}
 
 -- ---- one turn
-module _ {w k : ℕ} {m : ReconstructedMb} {d e : Progress} where
+module _ {w k : ℕ} {m : MbAnswer} {d e : Progress} where
   step-made : Step w k m d e → e.reply ≡ 0 → m.reply ≡ 0
   step-made (stays n q) h = absurd (n (ap (λ (x : Progress). x.reply) (sym q) ∙ h))
   step-made (refuses z n i f) h = absurd (n h)
@@ -74,7 +74,7 @@ as-found n y u v in_v = refl
 -- ---- an answer
 module _ (w h : ℕ) (modes subs : List ℕ) (coeffs : List ℤ) (y u v : List ℕ) (right : ℕ → List ℕ → List ℕ) where
   -- what the walkers make of macroblock k at its turn
-  abbrev at_turn : ℕ → ReconstructedMb
+  abbrev at_turn : ℕ → MbAnswer
   at_turn k = made_at w h modes subs coeffs right k (first w h modes subs coeffs right k y u v)
 
   none-finished : (n k : ℕ) → (n ≡ 0 → ⊥) → Finished w h (progress n 0 y u v) k → ⊥

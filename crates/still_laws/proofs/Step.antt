@@ -11,7 +11,7 @@ use lib.ListN.{length, get_or, take, drop}
 use Rattle.lists.specs.Lists.{pick, ◌beside◌}
 use Rattle.macroblock.specs.Reply.{done}
 use Rattle.gathering.specs.Answers.{gathered}
-use Rattle.reconstruct.specs.declared.ReconstructedMb.{ReconstructedMb}
+use Rattle.reconstruct.specs.Answers.{MbAnswer}
 use Rattle.canvas.specs.Placed.{placed}
 use Rattle.canvas.specs.Into.{made, drawn_into}
 use Rattle.still.specs.Picture.{Progress, progress, drawn_at, turn}
@@ -19,12 +19,12 @@ use Rattle.still_laws.specs.Words.{Plane, in_y, in_u, in_v, side, plane_of, pixe
 use Rattle.still_laws.proofs.Block.{placed-length, placed-outside}
 
 -- ---- a macroblock drawn into the planes
-data Into (w c r : ℕ) (m : ReconstructedMb) (y u v : List ℕ) : ℕ × (List ℕ × (List ℕ × List ℕ)) → Type 0 where
+data Into (w c r : ℕ) (m : MbAnswer) (y u v : List ℕ) : ℕ × (List ℕ × (List ℕ × List ℕ)) → Type 0 where
   kept : (k : ℕ) → (k ≡ 0 → ⊥) → Into w c r m y u v (k beside y beside u beside v)
   put : m.reply ≡ 0 → Into w c r m y u v (0 beside placed 16 w c r m.y y beside placed 8 w c r m.u u beside placed 8 w c r m.v v)
 
 module _ (w h c r luma chroma skip : ℕ) (subs right : List ℕ) (coeffs : List ℤ) (y u v : List ℕ) where
-  abbrev m : ReconstructedMb
+  abbrev m : MbAnswer
   m = made w h c r luma chroma skip subs right coeffs y u v
 
   by_tests : (g : ℕ) (a b : Bool) → eqb g done ≡ a → eqb m.reply done ≡ b
@@ -43,7 +43,7 @@ module _ (w h c r luma chroma skip : ℕ) (subs right : List ℕ) (coeffs : List
   into = by_tests (gathered y u v w h c r right).reply _ _ refl refl
 
 -- ---- turn k, from d to e, m being what the walkers make
-pub data Step (w k : ℕ) (m : ReconstructedMb) (d e : Progress) : Type 0 where
+pub data Step (w k : ℕ) (m : MbAnswer) (d e : Progress) : Type 0 where
   stays : (d.reply ≡ 0 → ⊥) → e ≡ d → Step w k m d e
   refuses : d.reply ≡ 0 → (e.reply ≡ 0 → ⊥) → e.index ≡ k → ((p : Plane) → plane_of p e ≡ plane_of p d) → Step w k m d e
   puts : d.reply ≡ 0 → e.reply ≡ 0 → e.index ≡ 0 → m.reply ≡ 0
@@ -54,14 +54,14 @@ same-planes reply index d in_y = refl
 same-planes reply index d in_u = refl
 same-planes reply index d in_v = refl
 
-put-planes : (index w c r : ℕ) (m : ReconstructedMb) (d : Progress) (p : Plane)
+put-planes : (index w c r : ℕ) (m : MbAnswer) (d : Progress) (p : Plane)
     → plane_of p (progress 0 index (placed 16 w c r m.y d.y) (placed 8 w c r m.u d.u) (placed 8 w c r m.v d.v))
     ≡ placed (side p) w c r (pixels_of p m) (plane_of p d)
 put-planes index w c r m d in_y = refl
 put-planes index w c r m d in_u = refl
 put-planes index w c r m d in_v = refl
 
-from-into : (w k : ℕ) (m : ReconstructedMb) (d : Progress) (t : ℕ × (List ℕ × (List ℕ × List ℕ))) → d.reply ≡ 0
+from-into : (w k : ℕ) (m : MbAnswer) (d : Progress) (t : ℕ × (List ℕ × (List ℕ × List ℕ))) → d.reply ≡ 0
     → Into w (k % w) (k / w) m d.y d.u d.v t
     → Step w k m d (progress t.0 (pick (eqb t.0 done) 0 k) t.1.0 t.1.1.0 t.1.1.1)
 from-into w k m d t z (kept r n) = refuses z n (rw (ne_eqb r 0 n)) (same-planes r (pick (eqb r 0) 0 k) d)
@@ -83,7 +83,7 @@ module _ (w h : ℕ) (modes subs : List ℕ) (coeffs : List ℤ) (right : ℕ �
       (right (k / w) d.y) (take 400 (drop (400 * k) coeffs)) d.y d.u d.v)
 
 -- ---- what every turn keeps: the lengths, and the bytes that are not its macroblock's
-module _ {w k : ℕ} {m : ReconstructedMb} {d e : Progress} where
+module _ {w k : ℕ} {m : MbAnswer} {d e : Progress} where
   pub step-length : Step w k m d e → (p : Plane) → length (plane_of p e) ≡ length (plane_of p d)
   step-length (stays n q) p = ap (λ (x : Progress). length (plane_of p x)) q
   step-length (refuses z n q f) p = ap (λ (l : List ℕ). length l) (f p)

@@ -17,13 +17,12 @@ use Rattle.macroblock.specs.Modes.{mode_at, y_mode_at}
 use Rattle.macroblock.specs.declared.neighbors.MbNeighbors.{MbNeighbors}
 use Rattle.macroblock.specs.Says.{y_reply, y_mode, uv_reply}
 use Rattle.rfc6386.specs.Edges.{is_b}
-use Rattle.reconstruct.specs.declared.ReconstructedMb.{ReconstructedMb}
-use Rattle.reconstruct.specs.Answers.{refusal, non_b, walk_b}
+use Rattle.reconstruct.specs.Answers.{MbAnswer, refusal, non_b, walk_b}
 use Rattle.drawing.specs.Drawn.{modes_known, modes_of, sub_modes_of, subs_known, drawn_b, drawn_in, drawn}
 use Rattle.still_laws.proofs.Unread.{luma-says}
 
 -- a test that was passed, k being the reply where it is not
-passed : (b : Bool) (r : ReconstructedMb) (k : ℕ) → (k ≡ 0 → ⊥) → (pick b r (refusal k)).reply ≡ 0 → (b ≡ true) × (pick b r (refusal k) ≡ r)
+passed : (b : Bool) (r : MbAnswer) (k : ℕ) → (k ≡ 0 → ⊥) → (pick b r (refusal k)).reply ≡ 0 → (b ≡ true) × (pick b r (refusal k) ≡ r)
 unfolding refusal
 passed true r k n e = (refl, refl)
 passed false r k n e = absurd (n e)
@@ -33,7 +32,7 @@ unfolding y_mode y_mode_at mode_at
 mode-B = refl
 
 module _ (luma chroma skip : ℕ) (subs : List ℕ) (there : Bool) (n : MbNeighbors) (coeffs : List ℤ) where
-  abbrev answer : ReconstructedMb
+  abbrev answer : MbAnswer
   answer = drawn luma chroma skip subs there n coeffs
 
   pub luma-known : modes_known luma chroma skip ≡ true → y_reply luma ≡ 0
@@ -51,7 +50,7 @@ module _ (luma chroma skip : ℕ) (subs : List ℕ) (there : Bool) (n : MbNeighb
         ≡ drawn_in (modes_of luma chroma skip) subs there n coeffs)
     known =
         passed (modes_known luma chroma skip) (drawn_in (modes_of luma chroma skip) subs there n coeffs) unknown_byte (λ z. omega arith)
-        (ap (λ (r : ReconstructedMb). r.reply) (sym sized) ∙ accepted)
+        (ap (λ (r : MbAnswer). r.reply) (sym sized) ∙ accepted)
 
     in-mode : answer ≡ drawn_in (modes_of luma chroma skip) subs there n coeffs
     in-mode = sized ∙ known.1
@@ -73,4 +72,4 @@ module _ (luma chroma skip : ℕ) (subs : List ℕ) (there : Bool) (n : MbNeighb
     is-walk_b e =
         in-mode ∙ in-B e
         ∙ (passed (subs_known subs there) (walk_b (sub_modes_of subs) there (modes_of luma chroma skip) n (drop 16 coeffs)) unknown_byte (λ z. omega arith)
-        (ap (λ (r : ReconstructedMb). r.reply) (sym (in-mode ∙ in-B e)) ∙ accepted)).1
+        (ap (λ (r : MbAnswer). r.reply) (sym (in-mode ∙ in-B e)) ∙ accepted)).1

@@ -7,7 +7,7 @@ use Rattle.macroblock.specs.declared.modes.MbModes.{MbModes}
 use Rattle.macroblock.specs.declared.neighbors.MbNeighbors.{MbNeighbors}
 use Rattle.gathering.specs.Answers.{gathered}
 use Rattle.drawing.specs.Drawn.{modes_known, modes_of}
-use Rattle.reconstruct.specs.declared.ReconstructedMb.{ReconstructedMb}
+use Rattle.reconstruct.specs.Answers.{MbAnswer}
 use Rattle.right_pixels.specs.Answers.{last_above}
 use Rattle.canvas.specs.Placed.{pixel_at}
 use Rattle.canvas.specs.Into.{made}
@@ -31,7 +31,7 @@ plane_of in_v d = d.v
 abbrev pub found_in : Plane → List ℕ → List ℕ → List ℕ → List ℕ
 found_in p y u v = plane_of p (progress done 0 y u v)
 
-abbrev pub pixels_of : Plane → ReconstructedMb → List ℕ
+abbrev pub pixels_of : Plane → MbAnswer → List ℕ
 pixels_of in_y m = m.y
 pixels_of in_u m = m.u
 pixels_of in_v m = m.v
@@ -73,7 +73,7 @@ bytes_known modes subs k =
     both (modes_known (luma_byte modes k) (chroma_byte modes k) (skip_byte modes k)) (pick (eqb (luma_byte modes k) 4) (within 9 16 (subs_at subs k)) true)
 
 module _ (w h : ℕ) (modes subs : List ℕ) (coeffs : List ℤ) (right : ℕ → List ℕ → List ℕ) where
-  unfoldable pub made_at : ℕ → Progress → ReconstructedMb
+  unfoldable pub made_at : ℕ → Progress → MbAnswer
   made_at k d =
       made w h (k % w) (k / w) (luma_byte modes k) (chroma_byte modes k) (skip_byte modes k) (subs_at subs k) (right (k / w) d.y)
       (coeffs_at coeffs k) d.y d.u d.v

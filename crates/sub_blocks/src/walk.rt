@@ -7,28 +7,23 @@ ghost use Rattle.blocks.specs.Taken.{residues_from};
 ghost use Rattle.sub_blocks.specs.Steps.{prediction_at, coded_block, coded_at, clipped_with, row_clipped, skipped_block, skipped_at};
 ghost use Rattle.sub_blocks.specs.Parts.{parts_drawn};
 
+use crate::corner::Corner;
 use crate::put::{clipped, put_block, sum_block};
-use crate::window::{corner_of, predict};
+use crate::window::predict;
 use macroblock::{IntraBmode, LumaEdges};
 use work_buffer::LENGTH;
 
-// The luma of a macroblock in mode B, and how many sums were below 0 or above 255.
-#[derive(Clone, Copy)]
-pub struct LumaParts {
-    pub pixels: [u8; 256],
-    pub clipped: u32,
-}
-
 // Sub-block j of block row i, its residue added. It answers how many sums were outside 0 and 255.
 fn coded_block(b: &mut [u8; LENGTH], mode: IntraBmode, o: &[i16; 64], i: usize, j: usize) -> u32
+    // Kept: rows and columns below 4 are counters' ranges, here and in `put`; types for them would be opened at once: no plainer.
     requires { (i < 4) × (j < 4) }
     ensures { (b.new ≡ coded_block mode o.now i j b.old)
         × (result ≡ clipped_with o.now j (prediction_at mode (4 * i + j) b.old)) }
 {
-    let at = corner_of(4 * i + j);
+    let corner = Corner::of(4 * i + j);
     let mut px = [0u8; 16];
-    predict(&mut px, b, at, mode);
-    sum_block(b, at, &px, o, j);
+    predict(&mut px, b, corner, mode);
+    sum_block(b, corner, &px, o, j);
     clipped(&px, o, j)
 }
 
@@ -38,9 +33,9 @@ fn coded_row(b: &mut [u8; LENGTH], modes: [IntraBmode; 16], o: &[i16; 64], i: us
         × (result ≡ row_clipped modes o.now i b.old) }
 {
     let mut n = 0u32;
+    // Kept: no plainer: j is the sub-block of row i, whose mode and residues lie at two places.
     for j in 0..4 {
-        let mode = modes[4 * i + j];
-        n = n + coded_block(b, mode, o, i, j);
+        n += coded_block(b, modes[4 * i + j], o, i, j);
     }
     n
 }
@@ -58,9 +53,10 @@ fn walk_coded(b: &mut [u8; LENGTH], modes: [IntraBmode; 16], coeffs: &[i16]) -> 
         × (result ≡ walked_clipped 16 modes false coeffs.now b.old) }
 {
     let mut n = 0u32;
+    // Kept: no plainer: i is the block row, and indexes nothing here.
     for i in 0..4 {
         let o = residues_of(coeffs, i);
-        n = n + coded_row(b, modes, &o, i);
+        n += coded_row(b, modes, &o, i);
     }
     n
 }
@@ -70,18 +66,17 @@ fn skipped_block(b: &mut [u8; LENGTH], mode: IntraBmode, k: usize)
     requires { k < 16 }
     ensures { b.new ≡ skipped_block mode k b.old }
 {
-    let at = corner_of(k);
+    let corner = Corner::of(k);
     let mut px = [0u8; 16];
-    predict(&mut px, b, at, mode);
-    put_block(b, at, &px);
+    predict(&mut px, b, corner, mode);
+    put_block(b, corner, &px);
 }
 
 fn walk_skipped(b: &mut [u8; LENGTH], modes: [IntraBmode; 16])
     ensures { b.new ≡ turns 16 (skipped_at modes) b.old }
 {
-    for k in 0..16 {
-        let mode = modes[k];
-        skipped_block(b, mode, k);
+    for (k, mode) in modes.iter().enumerate() {
+        skipped_block(b, *mode, k);
     }
 }
 
@@ -96,17 +91,17 @@ fn walk(b: &mut [u8; LENGTH], modes: [IntraBmode; 16], skip: bool, coeffs: &[i16
     walk_coded(b, modes, coeffs)
 }
 
-// The luma of a macroblock in mode B, from its neighbours, its sub-block modes and its coefficients.
+// The luma of a macroblock in mode B, from its neighbours, its sub-block modes and its coefficients, and how many sums were
+// below 0 or above 255.
 pub fn luma_parts(
     modes: [IntraBmode; 16],
     skip: bool,
     edges: LumaEdges,
     coeffs: &[i16],
-) -> LumaParts
+) -> ([u8; 256], u32)
     ensures { result ≡ parts_drawn modes skip edges coeffs.now }
 {
     let mut b = work_buffer::start(edges);
-    let n = walk(&mut b, modes, skip, coeffs);
-    let pixels = work_buffer::luma_of(&b);
-    LumaParts { pixels, clipped: n }
+    let clipped = walk(&mut b, modes, skip, coeffs);
+    (work_buffer::luma_of(&b), clipped)
 }

@@ -14,13 +14,12 @@ use Rattle.bool_decoder.proofs.Later.{Agree, ran-same}
 use Rattle.bool_decoder.specs.declared.state.BoolState.{BoolState}
 use Rattle.tokens.specs.Tokens.{Thread, all_blocks}
 use Rattle.tokens.specs.Walks.{thread_of}
-use Rattle.tokens.specs.Answers.{blank, refused, read_of, told, answered, walked}
-use Rattle.tokens.specs.declared.Macroblock.{Macroblock}
+use Rattle.tokens.specs.Answers.{Answer, blank, refused, read_of, told_of, answered, walked}
 
 abbrev saved : ℕ → ℕ → ℕ → ℕ → BoolState
 saved a r v b = record { at = a; range = r; value = v; bit_count = b }
 
-abbrev full : Got Thread → BoolState → Macroblock
+abbrev full : Got Thread → BoolState → Answer
 full g s = record { reply = 0; coeffs = g.got.out; above = g.got.above; left = g.got.left; state = s }
 
 module _ (src other probs : List ℕ) (zeros y2 : Bool) (above left : List Bool) (s : BoolState) where
@@ -42,10 +41,10 @@ module _ (src other probs : List ℕ) (zeros y2 : Bool) (above left : List Bool)
       same = ran-same n src other (all_blocks probs zeros y2 (thread_of above left blank)) (coder_of s) a h
 
       go : (t : Bool) → past src g.next ≡ t → (pick t (refused 9 above left s) (full g (state_of src g.next))).reply ≡ 0
-          → told other above left s (read_of other probs zeros y2 above left s) ≡ told src above left s g
+          → told_of other above left s (read_of other probs zeros y2 above left s) ≡ told_of src above left s g
       go true p e = absurd (omega arith)
       go false p e =
-          ap (told other above left s) (sym same)
+          ap (told_of other above left s) (sym same)
           ∙ ap (λ (t : Bool). pick t (refused 9 above left s) (full g (state_of other g.next))) (le-ltb (length other) (loaded g.next) (omega arith))
           ∙ ap (full g) (sym (state-same (λ i k. a i (omega arith))))
           ∙ sym (ap (λ (t : Bool). pick t (refused 9 above left s) (full g (state_of src g.next))) p)

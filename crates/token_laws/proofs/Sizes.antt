@@ -16,8 +16,7 @@ use Rattle.bool_decoder.specs.declared.state.BoolState.{BoolState}
 use Rattle.token_probs.specs.Answers.{no_zero}
 use Rattle.tokens.specs.Tokens.{Tree, value, node, extras, treed, later_tree, Drawn, Thread, positions, unless_ended, row_of, class_of, zeroed, stored, zigzag_of, signed_of, one_block, blocks, all_blocks, base_of, first_of, count_of, marked}
 use Rattle.tokens.specs.Walks.{thread_of}
-use Rattle.tokens.specs.Answers.{blank, refused, read_of, answered, walked, decoded}
-use Rattle.tokens.specs.declared.Macroblock.{Macroblock}
+use Rattle.tokens.specs.Answers.{Answer, blank, refused, read_of, answered, walked, decoded}
 
 -- a size of at most 2,114 with its sign
 pub record Within (z : ℤ) : Type 0 where
@@ -151,7 +150,7 @@ module _ (src probs : List ℕ) (y2 : Bool) (above left : List Bool) (s : BoolSt
   unfolding blank
   blank-within = each_none 400
 
-  abbrev full : Bool → Macroblock
+  abbrev full : Bool → Answer
   full zeros =
       record {
         reply = 0;

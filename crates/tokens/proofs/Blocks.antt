@@ -12,7 +12,6 @@ use Rattle.bool_decoder.specs.declared.BoolDecoder.{BoolDecoder}
 use Rattle.bool_decoder.proofs.Runs.{ran_then}
 use Rattle.tokens.specs.Tokens.{Drawn, Thread, positions, row_of, band_of, above_slot, left_slot, base_of, first_of, count_of, marked, one_block, blocks, all_blocks}
 use Rattle.tokens.specs.Walks.{Band, Draws, Threads, drawn, thread_of}
-use Rattle.tokens.specs.declared.block.Block.{Block}
 use Rattle.tokens.proofs.Positions.{goes_on, ends, gotten}
 
 abbrev threaded : Thread → Coder → Got Thread
@@ -43,8 +42,8 @@ module _ (src probs : List ℕ) (zeros y2 : Bool) (n : ℕ) (above left : List B
     marked_by : (x : Drawn) → thread_of (set above a x.some) (set left l x.some) x.out ≡ marked n t₀ x
     marked_by x = rw (ae, le)
 
-    pub block-some : b ≡ true → After true (get_or probs row 0) e f → (o' : List ℤ) (r : Block) → Draws src (all true row) f o' r
-        → Threads src (one_block probs zeros y2 n t₀) d (thread_of (set above a r.some) (set left l r.some) o') r.next
+    pub block-some : b ≡ true → After true (get_or probs row 0) e f → (o' : List ℤ) (r : Bool × BoolDecoder) → Draws src (all true row) f o' r
+        → Threads src (one_block probs zeros y2 n t₀) d (thread_of (set above a r.0) (set left l r.0) o') r.1
     block-some t q o' r w =
         record {
           is =
@@ -67,7 +66,7 @@ module _ (src probs : List ℕ) (zeros y2 : Bool) (n : ℕ) (above left : List B
                     ∙ ap (λ (i : List ℤ). thread_of (set above a (ran src (all true row) (read_bool src (get_or probs row 0) c).next).got.some) (set left l (ran src (all true row) (read_bool src (get_or probs row 0) c).next).got.some) i) x.out
                     ∙ marked_by (ran src (all true row) (read_bool src (get_or probs row 0) c).next).got
                     ∙ sym (ap (λ (i : Got Thread). i.got) m);
-                holds = subst (λ (i : Got Thread). Holds src r.next i.next) (sym m) x.holds;
+                holds = subst (λ (i : Got Thread). Holds src r.1 i.next) (sym m) x.holds;
               };
         }
 
@@ -107,9 +106,9 @@ module _ (src probs : List ℕ) (zeros y2 : Bool) (n : ℕ) (above left : List B
   starts : first_of y2 n < 16
   starts = omega arith
 
-  pub some_read : b ≡ true → After true (get_or probs (base + band + count) 0) e f → (o' : List ℤ) (r : Block)
+  pub some_read : b ≡ true → After true (get_or probs (base + band + count) 0) e f → (o' : List ℤ) (r : Bool × BoolDecoder)
       → Draws src (positions probs base (16 * n) zeros (16 - first) true first (base + band + count) (drawn o false)) f o' r
-      → Threads src (one_block probs zeros y2 n (thread_of above left o)) d (thread_of (set above a r.some) (set left l r.some) o') r.next
+      → Threads src (one_block probs zeros y2 n (thread_of above left o)) d (thread_of (set above a r.0) (set left l r.0) o') r.1
   some_read t q o' r w =
       block-some src probs zeros y2 n above left o a l ae le (base + band + count) row_is starts d e y b one f t q o' r
       (subst (λ (i : ℕ). Draws src (positions probs (base_of y2 n) (16 * n) zeros (16 - i) true i (base + band + count) (drawn o false)) f o' r) fe
@@ -125,9 +124,6 @@ module _ (src probs : List ℕ) (zeros y2 : Bool) where
     pub coder : Coder
     pub holds : Holds src e coder
     pub same : ran src (blocks probs zeros y2 (25 - n) n t) coder ≡ ran src (all_blocks probs zeros y2 t₀) c₀
-
-  pub blocks_start : (n : ℕ) (t : Thread) (d : BoolDecoder) (c : Coder) → n ≡ 1 - bit_of y2 → Holds src d c → Going t n t d c
-  blocks_start n t d c e h = record { coder = c; holds = h; same = ap (λ (i : ℕ). ran src (blocks probs zeros y2 (25 - i) i t) c) e }
 
   one_more : (n : ℕ) (t : Thread) (c : Coder) → n < 25
       → ran src (blocks probs zeros y2 (25 - n) n t) c

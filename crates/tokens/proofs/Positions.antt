@@ -14,8 +14,7 @@ use Rattle.bool_decoder.specs.Held.{Holds, Ready, IsOne, After, Went}
 use Rattle.bool_decoder.specs.declared.BoolDecoder.{BoolDecoder}
 use Rattle.bool_decoder.proofs.Runs.{ran_then}
 use Rattle.tokens.specs.Tokens.{Drawn, treed, extras, value, nonzero_tree, later_tree, positions, unless_ended, row_of, class_of, zeroed, stored}
-use Rattle.tokens.specs.Walks.{Band, Put, Puts, Drew, drawn}
-use Rattle.tokens.specs.declared.tree.Token.{Token}
+use Rattle.tokens.specs.Walks.{Band, Put, Puts, Drew, drawn, Token}
 
 module _ (src probs : List ℕ) (base at : ℕ) (zeros : Bool) where
   -- what follows a token of that size
@@ -157,35 +156,35 @@ module _ (src probs : List ℕ) (base at : ℕ) (zeros : Bool) where
       signed-at : Coder
       signed-at = (read_bool src 128 (ran src (treed probs row nonzero_tree) (read_bool src (get_or probs (row + 1) 0) g.coder).next).next).next
 
-      step : ran src (positions probs base at zeros (16 - (i + 1)) false (i + 1) (row_of base (i + 1) (class_of r.size)) (drawn o' true)) signed-at
+      step : ran src (positions probs base at zeros (16 - (i + 1)) false (i + 1) (row_of base (i + 1) (class_of r.0)) (drawn o' true)) signed-at
           ≡ ran src (positions probs base at zeros (16 - first) true first from (drawn o₀ false)) c₀
       unfolding signed-at
       step =
-          ap (λ (l : List ℤ). ran src (positions probs base at zeros (16 - (i + 1)) false (i + 1) (row_of base (i + 1) (class_of r.size)) (drawn l true)) signed-at) put.out
-          ∙ sym (one-turn i row (drawn o some) g.coder r.size h is_one p.some put.size)
+          ap (λ (l : List ℤ). ran src (positions probs base at zeros (16 - (i + 1)) false (i + 1) (row_of base (i + 1) (class_of r.0)) (drawn l true)) signed-at) put.out
+          ∙ sym (one-turn i row (drawn o some) g.coder r.0 h is_one p.some put.size)
           ∙ g.same
 
       -- the last position
-      pub last : i + 1 ≡ 16 → Drew src (positions probs base at zeros (16 - first) true first from (drawn o₀ false)) c₀ o' (record { some = true; next = r.next })
+      pub last : i + 1 ≡ 16 → Drew src (positions probs base at zeros (16 - first) true first from (drawn o₀ false)) c₀ o' (true, r.1)
       unfolding signed-at
       last l =
-          let z = sym (all_done (i + 1) (row_of base (i + 1) (class_of r.size)) false (drawn o' true) signed-at (omega arith)) ∙ step in
+          let z = sym (all_done (i + 1) (row_of base (i + 1) (class_of r.0)) false (drawn o' true) signed-at (omega arith)) ∙ step in
           record {
             out = ap (λ (k : Got Drawn). k.got.out) z;
             some = ap (λ (k : Got Drawn). k.got.some) z;
-            holds = subst (λ (k : Got Drawn). Holds src r.next k.next) z put.holds;
+            holds = subst (λ (k : Got Drawn). Holds src r.1 k.next) z put.holds;
           }
 
-      module _ (row' : ℕ) (ro : row' ≡ row_of base (i + 1) (class_of r.size)) (l : i + 1 < 16) (b' : Bool) (one' : IsOne (get_or probs row' 0) r.next b') (m : BoolDecoder) where
+      module _ (row' : ℕ) (ro : row' ≡ row_of base (i + 1) (class_of r.0)) (l : i + 1 < 16) (b' : Bool) (one' : IsOne (get_or probs row' 0) r.1 b') (m : BoolDecoder) where
         step' : ran src (positions probs base at zeros (16 - (i + 1)) false (i + 1) row' (drawn o' true)) signed-at
             ≡ ran src (positions probs base at zeros (16 - first) true first from (drawn o₀ false)) c₀
         step' = ap (λ (k : ℕ). ran src (positions probs base at zeros (16 - (i + 1)) false (i + 1) k (drawn o' true)) signed-at) ro ∙ step
 
-        holds_at : Holds src r.next signed-at
+        holds_at : Holds src r.1 signed-at
         unfolding signed-at
         holds_at = put.holds
 
-        pub one_on : b' ≡ true → After true (get_or probs row' 0) r.next m → Going first from o₀ (i + 1) row' o' true m c₀
+        pub one_on : b' ≡ true → After true (get_or probs row' 0) r.1 m → Going first from o₀ (i + 1) row' o' true m c₀
         one_on t' q' =
             let z : (read_bool src (get_or probs row' 0) signed-at).got ≡ true = sym (one'.is src signed-at holds_at) ∙ t' in
             let u = q'.is src signed-at holds_at (omega (arith, put.held)) z in
@@ -195,8 +194,8 @@ module _ (src probs : List ℕ) (base at : ℕ) (zeros : Bool) where
               same = sym (goes_on (i + 1) row' (drawn o' true) signed-at l z) ∙ step';
             }
 
-        pub ended : b' ≡ false → After false (get_or probs row' 0) r.next m
-            → Drew src (positions probs base at zeros (16 - first) true first from (drawn o₀ false)) c₀ o' (record { some = true; next = m })
+        pub ended : b' ≡ false → After false (get_or probs row' 0) r.1 m
+            → Drew src (positions probs base at zeros (16 - first) true first from (drawn o₀ false)) c₀ o' (true, m)
         ended t' q' =
             let z : (read_bool src (get_or probs row' 0) signed-at).got ≡ false = sym (one'.is src signed-at holds_at) ∙ t' in
             let u = q'.is src signed-at holds_at (omega (arith, put.held)) z in
@@ -208,7 +207,7 @@ module _ (src probs : List ℕ) (base at : ℕ) (zeros : Bool) where
             }
 
   pub finished : (first from : ℕ) (o₀ : List ℤ) (c₀ : Coder) (i row : ℕ) (o : List ℤ) (some : Bool) (e : BoolDecoder) → 16 ≤ i → Going first from o₀ i row o some e c₀
-      → Drew src (positions probs base at zeros (16 - first) true first from (drawn o₀ false)) c₀ o (record { some = some; next = e })
+      → Drew src (positions probs base at zeros (16 - first) true first from (drawn o₀ false)) c₀ o (some, e)
   finished first from o₀ c₀ i row o some e h g =
       let z = sym (all_done i row true (drawn o some) g.coder h) ∙ g.same in
       record {

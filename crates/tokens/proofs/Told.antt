@@ -15,10 +15,9 @@ use Rattle.bool_decoder.specs.declared.BoolDecoder.{BoolDecoder}
 use Rattle.bool_decoder.specs.declared.state.BoolState.{BoolState}
 use Rattle.tokens.specs.Tokens.{Thread, all_blocks}
 use Rattle.tokens.specs.Walks.{Threads, Threaded, thread_of}
-use Rattle.tokens.specs.Answers.{blank, refused, told, read_of, answered}
-use Rattle.tokens.specs.declared.Macroblock.{Macroblock}
+use Rattle.tokens.specs.Answers.{blank, Answer, refused, told_of, read_of, answered}
 
-abbrev answer : Thread → BoolState → Macroblock
+abbrev answer : Thread → BoolState → Answer
 answer t s = record { reply = 0; coeffs = t.out; above = t.above; left = t.left; state = s }
 
 module _ (src : List ℕ) (above left : List Bool) (s : BoolState) (g : Got Thread) (e : BoolDecoder) (r : BoolState) (holds : Holds src e g.next) (saves : Saves src e r) where
@@ -26,17 +25,17 @@ module _ (src : List ℕ) (above left : List Bool) (s : BoolState) (g : Got Thre
   unfolding state_of
   saved-at p = ap (λ (x : BoolState). x.at) (saves.is g.next holds p)
 
-  pub told-past : length src < r.at → refused 9 above left s ≡ told src above left s g
+  pub told-past : length src < r.at → refused 9 above left s ≡ told_of src above left s g
   told-past h = go (past src g.next) refl
     where
-      go : (t : Bool) → past src g.next ≡ t → refused 9 above left s ≡ told src above left s g
+      go : (t : Bool) → past src g.next ≡ t → refused 9 above left s ≡ told_of src above left s g
       go true p = rw p
       go false p = absurd (omega (arith, saved-at p, ltb-false (length src) (loaded g.next) p))
 
-  pub told-done : r.at ≤ length src → (t : Thread) → t ≡ g.got → answer t r ≡ told src above left s g
+  pub told-done : r.at ≤ length src → (t : Thread) → t ≡ g.got → answer t r ≡ told_of src above left s g
   told-done h t q = go (past src g.next) refl
     where
-      go : (x : Bool) → past src g.next ≡ x → answer t r ≡ told src above left s g
+      go : (x : Bool) → past src g.next ≡ x → answer t r ≡ told_of src above left s g
       go true p = absurd (omega (arith, saves.over g.next holds p))
       go false p = ap (λ (i : Thread). answer i r) q ∙ ap (answer g.got) (saves.is g.next holds p) ∙ sym (ap (λ (x : Bool). pick x (refused 9 above left s) (answer g.got (state_of src g.next))) p)
 

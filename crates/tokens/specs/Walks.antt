@@ -4,24 +4,23 @@ use Rattle.bool_decoder.specs.BoolCoder.{Coder, Reads, ran, read_bool}
 use Rattle.bool_decoder.specs.Held.{Holds}
 use Rattle.bool_decoder.specs.declared.BoolDecoder.{BoolDecoder}
 use Rattle.tokens.specs.Tokens.{Drawn, Thread, treed, nonzero_tree, band_of, zigzag_of, signed_of}
-use Rattle.tokens.specs.declared.tree.Token.{Token}
-use Rattle.tokens.specs.declared.block.Block.{Block}
 
 abbrev pub drawn : List ℤ → Bool → Drawn
 drawn o s = record { out = o; some = s }
 
-abbrev pub token_of : ℕ → BoolDecoder → Token
-token_of size next = record { size = size; next = next }
+-- a size, and the decoder behind it
+abbrev pub Token : Type 0
+Token = ℕ × BoolDecoder
 
 -- the size that m gives, and a decoder with enough bits for a sign and one bool
 pub record Sized (src : List ℕ) (m : Reads ℕ) (c : Coder) (r : Token) : Type 0 where
-  pub size : r.size ≡ (ran src m c).got
-  pub holds : Holds src r.next (ran src m c).next
-  pub held : 19 ≤ r.next.held
+  pub size : r.0 ≡ (ran src m c).got
+  pub holds : Holds src r.1 (ran src m c).next
+  pub held : 19 ≤ r.1.held
 
 pub record Walks (src : List ℕ) (m : Reads ℕ) (least : ℕ) (d : BoolDecoder) (r : Token) : Type 0 where
-  pub small : r.size ≤ 2114
-  pub some : 0 < r.size
+  pub small : r.0 ≤ 2114
+  pub some : 0 < r.0
   pub is : (c : Coder) → Holds src d c → least ≤ d.held → Sized src m c r
 
 pub record Band (i r : ℕ) : Type 0 where
@@ -30,22 +29,22 @@ pub record Band (i r : ℕ) : Type 0 where
 
 -- a coefficient that is not 0, with its sign, in its place
 pub record Put (src probs : List ℕ) (row at i : ℕ) (o : List ℤ) (c : Coder) (o' : List ℤ) (r : Token) : Type 0 where
-  pub size : r.size ≡ (ran src (treed probs row nonzero_tree) c).got
-  pub out : o' ≡ set o (at + zigzag_of i) (signed_of r.size (read_bool src 128 (ran src (treed probs row nonzero_tree) c).next).got)
-  pub holds : Holds src r.next (read_bool src 128 (ran src (treed probs row nonzero_tree) c).next).next
-  pub held : 18 ≤ r.next.held
+  pub size : r.0 ≡ (ran src (treed probs row nonzero_tree) c).got
+  pub out : o' ≡ set o (at + zigzag_of i) (signed_of r.0 (read_bool src 128 (ran src (treed probs row nonzero_tree) c).next).got)
+  pub holds : Holds src r.1 (read_bool src 128 (ran src (treed probs row nonzero_tree) c).next).next
+  pub held : 18 ≤ r.1.held
 
 pub record Puts (src probs : List ℕ) (row at i : ℕ) (o : List ℤ) (d : BoolDecoder) (o' : List ℤ) (r : Token) : Type 0 where
-  pub some : 0 < r.size
+  pub some : 0 < r.0
   pub is : (c : Coder) → Holds src d c → 26 ≤ d.held → Put src probs row at i o c o' r
 
 -- a block's coefficients, its flag, and the decoder behind it
-pub record Drew (src : List ℕ) (m : Reads Drawn) (c : Coder) (o : List ℤ) (r : Block) : Type 0 where
+pub record Drew (src : List ℕ) (m : Reads Drawn) (c : Coder) (o : List ℤ) (r : Bool × BoolDecoder) : Type 0 where
   pub out : o ≡ (ran src m c).got.out
-  pub some : r.some ≡ (ran src m c).got.some
-  pub holds : Holds src r.next (ran src m c).next
+  pub some : r.0 ≡ (ran src m c).got.some
+  pub holds : Holds src r.1 (ran src m c).next
 
-pub record Draws (src : List ℕ) (m : Reads Drawn) (d : BoolDecoder) (o : List ℤ) (r : Block) : Type 0 where
+pub record Draws (src : List ℕ) (m : Reads Drawn) (d : BoolDecoder) (o : List ℤ) (r : Bool × BoolDecoder) : Type 0 where
   pub is : (c : Coder) → Holds src d c → Drew src m c o r
 
 abbrev pub thread_of : List Bool → List Bool → List ℤ → Thread

@@ -24,9 +24,8 @@ use Rattle.rfc6386.specs.Residue.{sum}
 use Rattle.rfc6386.specs.Walk.{seeded, added_blocks, plane, y_prediction, uv_prediction, y_whole}
 use Rattle.rfc6386.proofs.DctBlocks.{residue-ext}
 use Rattle.rfc6386.proofs.Planes.{added-at, plane-ext, iwht-ext}
-use Rattle.reconstruct.specs.Answers.{whole_of, non_b, walk_b}
+use Rattle.reconstruct.specs.Answers.{MbAnswer, whole_of, non_b, walk_b}
 use Rattle.reconstruct.proofs.Replies.{non_b-accepted}
-use Rattle.reconstruct.specs.declared.ReconstructedMb.{ReconstructedMb}
 use Rattle.walker_laws.specs.Around.{sub_of}
 use Rattle.walker_laws.specs.Chroma.{luma_of_b, luma_of_16x16, u_block, v_block, chroma_u, chroma_v}
 use Rattle.walker_laws.specs.Moves.{Untouched, UntouchedChroma, Closed, ClosedChroma, SameButSub, SameButLuma, SameButY}
@@ -79,7 +78,7 @@ raster-untouched j k l = ⊎_elim inl (λ h. inr (omega arith)) (below (j / 4) (
 by-quarter : (k : ℕ) → 4 * (k / 4) + k % 4 ≡ k
 by-quarter k = omega arith
 
-module _ (subs : List IntraBmode) (there : Bool) (m : MbModes) (n : MbNeighbors) (c d : List ℤ) (r s : ReconstructedMb)
+module _ (subs : List IntraBmode) (there : Bool) (m : MbModes) (n : MbNeighbors) (c d : List ℤ) (r s : MbAnswer)
     (promise : r ≡ walk_b subs there m n c) (accepted : r.reply ≡ done) (promise2 : s ≡ walk_b subs there m n d) (accepted2 : s.reply ≡ done)
     (k : ℕ) (inside : k < 16) (only : SameButSub k c d) where
   -- the sub-block in row i and column j
@@ -100,10 +99,10 @@ module _ (subs : List IntraBmode) (there : Bool) (m : MbModes) (n : MbNeighbors)
       (f.0 ∙ u-agree luma_of_b m.uv m.skip n c d e ∙ sym g.0, f.1 ∙ v-agree luma_of_b m.uv m.skip n c d e ∙ sym g.1)
 
 -- ---- the 16x16 modes
-non_b-luma : (m : MbModes) (n : MbNeighbors) (c : List ℤ) (r : ReconstructedMb) → r ≡ non_b m n c → r.reply ≡ done
+non_b-luma : (m : MbModes) (n : MbNeighbors) (c : List ℤ) (r : MbAnswer) → r ≡ non_b m n c → r.reply ≡ done
     → r.y ≡ plane 16 m.skip (y_prediction m.y n.y) (seeded c)
 unfolding whole_of y_whole
-non_b-luma m n c r promise accepted = ap (λ (x : ReconstructedMb). x.y) (promise ∙ (non_b-accepted m n c (rw promise at accepted)).2)
+non_b-luma m n c r promise accepted = ap (λ (x : MbAnswer). x.y) (promise ∙ (non_b-accepted m n c (rw promise at accepted)).2)
 
 -- the coefficients of another block
 seeded-others : (k : ℕ) (c d : List ℤ) → SameButY k c d → (b : ℕ) → (b ≡ k → ⊥) → (i : ℕ) → i < 16 → seeded c b i ≡ seeded d b i
@@ -128,7 +127,7 @@ plane-others false p x y b h e =
     ∙ ap (λ (t : ℤ). sum (get_or p (r * 16 + s) 0) t) (residue-ext (x (16 / 4 * (r / 4) + s / 4)) (y (16 / 4 * (r / 4) + s / 4)) (rw z e) (r % 4) (s % 4))
     ∙ sym (ap (λ (q : ℕ). get_or (added_blocks 16 p y) q 0) g ∙ added-at 16 p y r s (omega arith) (omega arith))
 
-module _ (m : MbModes) (n : MbNeighbors) (c d : List ℤ) (r s : ReconstructedMb)
+module _ (m : MbModes) (n : MbNeighbors) (c d : List ℤ) (r s : MbAnswer)
     (promise : r ≡ non_b m n c) (accepted : r.reply ≡ done) (promise2 : s ≡ non_b m n d) (accepted2 : s.reply ≡ done) where
   pub non_b-chroma : SameButLuma c d → (r.u ≡ s.u) × (r.v ≡ s.v)
   non_b-chroma e =

@@ -27,8 +27,7 @@ use Rattle.rfc6386.proofs.Parts.{parts_at}
 use Rattle.rfc6386.proofs.Planes.{plane-ext}
 use Rattle.rfc6386.proofs.Subblock.{b-length}
 use Rattle.sub_blocks.proofs.Windows.{above-is, left_is}
-use Rattle.reconstruct.specs.Answers.{whole_of, parts_of, non_b, walk_b}
-use Rattle.reconstruct.specs.declared.ReconstructedMb.{ReconstructedMb}
+use Rattle.reconstruct.specs.Answers.{MbAnswer, whole_of, parts_of, non_b, walk_b}
 use Rattle.reconstruct.proofs.Replies.{non_b-accepted, walk_b-accepted}
 use Rattle.reconstruct.proofs.Demand3.{Blocks8191, Near, walk_b-y}
 use Rattle.walker_laws.specs.Around.{around, row_above, column_left, column, row, above_sub, left_sub, corner_sub, predict_sub, place_in, sub_of, Ruled}
@@ -126,14 +125,14 @@ module _ (mode : IntraUvMode) (skip : Bool) (n : MbNeighbors) (c : List ℤ) (lu
   v-ruled = plane-ext 8 skip (uv_prediction mode n.v) (block_at c (luma + 64)) (v_block luma c) (λ r s k _ _ _. ap (λ (q : ℕ). get_or c q (pos 0)) (omega arith))
 
 -- ---- what `decode_keyframe_mb_bpred` returns
-module _ (subs : List IntraBmode) (there : Bool) (m : MbModes) (n : MbNeighbors) (c : List ℤ) (r : ReconstructedMb)
+module _ (subs : List IntraBmode) (there : Bool) (m : MbModes) (n : MbNeighbors) (c : List ℤ) (r : MbAnswer)
     (promise : r ≡ walk_b subs there m n c) (accepted : r.reply ≡ done) where
   is-parts : r ≡ parts_of subs m.uv m.skip n c
   is-parts = promise ∙ (walk_b-accepted subs there m n c (rw promise at accepted)).2
 
   luma-is : r.y ≡ y_parts subs m.skip n.y c
   unfolding parts_of
-  luma-is = ap (λ (x : ReconstructedMb). x.y) is-parts
+  luma-is = ap (λ (x : MbAnswer). x.y) is-parts
 
   pub walk_b-ruled : Ruled subs m.skip n.y c r.y
   walk_b-ruled = rw luma-is (parts-ruled subs m.skip n.y c)
@@ -141,8 +140,8 @@ module _ (subs : List IntraBmode) (there : Bool) (m : MbModes) (n : MbNeighbors)
   pub walk_b-chroma-ruled : (r.u ≡ chroma_u luma_of_b m.uv m.skip n c) × (r.v ≡ chroma_v luma_of_b m.uv m.skip n c)
   unfolding parts_of
   walk_b-chroma-ruled = (
-    ap (λ (x : ReconstructedMb). x.u) is-parts ∙ u-ruled m.uv m.skip n c luma_of_b,
-    ap (λ (x : ReconstructedMb). x.v) is-parts ∙ v-ruled m.uv m.skip n c luma_of_b,
+    ap (λ (x : MbAnswer). x.u) is-parts ∙ u-ruled m.uv m.skip n c luma_of_b,
+    ap (λ (x : MbAnswer). x.v) is-parts ∙ v-ruled m.uv m.skip n c luma_of_b,
   )
 
   -- row i and column j of sub-block k
@@ -153,11 +152,11 @@ module _ (subs : List IntraBmode) (there : Bool) (m : MbModes) (n : MbNeighbors)
       rw (prediction-ruled subs false n.y c k hk, e) at (walk_b-y subs there m n c r promise accepted coded h k i j hk hi hj)
 
 -- ---- what `decode_keyframe_mb_non_bpred` returns
-pub non_b-chroma-ruled : (m : MbModes) (n : MbNeighbors) (c : List ℤ) (r : ReconstructedMb) → r ≡ non_b m n c → r.reply ≡ done
+pub non_b-chroma-ruled : (m : MbModes) (n : MbNeighbors) (c : List ℤ) (r : MbAnswer) → r ≡ non_b m n c → r.reply ≡ done
     → (r.u ≡ chroma_u luma_of_16x16 m.uv m.skip n c) × (r.v ≡ chroma_v luma_of_16x16 m.uv m.skip n c)
 unfolding whole_of
 non_b-chroma-ruled m n c r promise accepted =
     let e : r ≡ whole_of m.y m.uv m.skip n c = promise ∙ (non_b-accepted m n c (rw promise at accepted)).2 in (
-      ap (λ (x : ReconstructedMb). x.u) e ∙ u-ruled m.uv m.skip n c luma_of_16x16,
-      ap (λ (x : ReconstructedMb). x.v) e ∙ v-ruled m.uv m.skip n c luma_of_16x16,
+      ap (λ (x : MbAnswer). x.u) e ∙ u-ruled m.uv m.skip n c luma_of_16x16,
+      ap (λ (x : MbAnswer). x.v) e ∙ v-ruled m.uv m.skip n c luma_of_16x16,
     )

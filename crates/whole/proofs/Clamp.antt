@@ -4,9 +4,10 @@ use mathlib.Core.Path.{◌≡◌, refl, ap}
 use mathlib.Core.Bool.{true, false}
 use Prim.Native.Nat.{ℕ, suc, ◌+◌, ◌*◌, ◌≤◌, ◌<◌, min}
 use native.Mathlib.Nat.{mul-le-mul_left}
-use native.Mathlib.Decide.{dec_le}
+use native.Mathlib.Decide.{dec_le, dec_lt}
 use native.Mathlib.Omega.{arith}
-use borrow.Author.Tests.{ltb-true, ltb-false}
+use borrow.Author.Tests.{ltb-true, ltb-false, lt-ltb, le-ltb}
+use Rattle.std.specs.Int.{int_max, int_min}
 use lib.IntN.{ℤ, pos, negsuc, neg_ℤ, nat_abs, ◌+ℤ◌, ◌*ℤ◌}
 use lib.Signed.{◌≤ℤ◌, lt_z}
 use Rattle.whole.specs.Whole.{clamp_to, clamp}
@@ -70,3 +71,13 @@ pub clamp-scale : (k m : ℕ) (z : ℤ) → k * clamp_to m z ≡ clamp_to (k * m
 unfolding clamp_to P N
 clamp-scale k m (pos a) = min-scale k m a
 clamp-scale k m (negsuc a) = omega (arith, clamp-part (k * m) (neg_ℤ (pos (k * suc a))), neg-P (pos (k * suc a)))
+
+-- the larger of 0 and the smaller of the number and 255
+pub clamp-is : (z : ℤ) → int_max (pos 0) (int_min z (pos 255)) ≡ pos (clamp z)
+unfolding clamp_to
+clamp-is (negsuc n) = refl
+clamp-is (pos n) = by (dec_lt 255 n)
+  where
+    by : Dec (255 < n) → int_max (pos 0) (int_min (pos n) (pos 255)) ≡ pos (min n 255)
+    by (yes h) = rw (lt-ltb 255 n h) (let e : 255 ≡ min n 255 = omega (arith, h) in ap pos e)
+    by (no h) = let q : n ≤ 255 = omega (arith, h) in rw (le-ltb 255 n q, le-ltb n 0 (omega arith)) (let e : n ≡ min n 255 = omega (arith, q) in ap pos e)

@@ -14,7 +14,6 @@ use Rattle.whole.proofs.Held.{R32}
 use Rattle.whole.proofs.Chain.{Is, known, held, bound}
 use Rattle.rfc6386.specs.Wht.{wht_pass, wht_column, wht_at, iwht}
 use Rattle.rfc6386.proofs.Wht.{column-sums, column-bound}
-use Rattle.wht.specs.declared.Four.{Four}
 use Rattle.wht.specs.Pass.{Small, Within, line_of, passed_at, passed, rounded_of}
 
 -- ---- two passes, rounded, are the transform
@@ -80,17 +79,19 @@ module _ (x : List ℤ) (c : ℕ) (w : Within 131072 x) where
   unfolding wht_column
   result-at n k p q = rw (p, q)
 
-  pub pass-turn : (f : Four) (d t : List ℤ) → f ≡ line_of (R32 (at c)) (R32 (at (4 + c))) (R32 (at (8 + c))) (R32 (at (12 + c)))
+  pub pass-turn : (f : List ℤ) (v0 v1 v2 v3 : ℤ) (d t : List ℤ) → f ≡ line_of (R32 (at c)) (R32 (at (4 + c))) (R32 (at (8 + c))) (R32 (at (12 + c)))
+      → v0 ≡ R32 (get_or f 0 (pos 0)) → v1 ≡ R32 (get_or f 1 (pos 0)) → v2 ≡ R32 (get_or f 2 (pos 0)) → v3 ≡ R32 (get_or f 3 (pos 0))
       → c < 4 → length d ≡ 16 → t ≡ table (4 * c) (passed_at x) ++ drop (4 * c) d
-      → set (set (set (set t (4 * c) (R32 f.x0)) (4 * c + 1) (R32 f.x1)) (4 * c + 2) (R32 f.x2)) (4 * c + 3) (R32 f.x3)
+      → set (set (set (set t (4 * c) v0) (4 * c + 1) v1) (4 * c + 2) v2) (4 * c + 3) v3
       ≡ table (4 * (c + 1)) (passed_at x) ++ drop (4 * (c + 1)) d
   unfolding line_of
-  pass-turn f d t e l h q =
+  pass-turn f v0 v1 v2 v3 d t e p0 p1 p2 p3 l h q =
       let n : 4 * (c + 1) ≡ 4 * c + 4 = omega arith in
       let i : f ≡ line_of (at c) (at (4 + c)) (at (8 + c)) (at (12 + c)) = e ∙ rw ((read c).is, (read (4 + c)).is, (read (8 + c)).is, (read (12 + c)).is) in
+      let g : (k : ℕ) → R32 (get_or f k (pos 0)) ≡ R32 (get_or (line_of (at c) (at (4 + c)) (at (8 + c)) (at (12 + c))) k (pos 0)) = λ k. ap (λ (g : List ℤ). R32 (get_or g k (pos 0))) i in
       rw n
       (four-turns (4 * c) (passed_at x) _ _ _ _ d t q (omega arith)
-      (ap (λ (g : Four). R32 g.x0) i ∙ result-back 0 ∙ result-at (4 * c) 0 (omega arith) (omega arith))
-      (ap (λ (g : Four). R32 g.x1) i ∙ result-back 1 ∙ result-at (4 * c + 1) 1 (omega arith) (omega arith))
-      (ap (λ (g : Four). R32 g.x2) i ∙ result-back 2 ∙ result-at (4 * c + 2) 2 (omega arith) (omega arith))
-      (ap (λ (g : Four). R32 g.x3) i ∙ result-back 3 ∙ result-at (4 * c + 3) 3 (omega arith) (omega arith)))
+      (p0 ∙ g 0 ∙ result-back 0 ∙ result-at (4 * c) 0 (omega arith) (omega arith))
+      (p1 ∙ g 1 ∙ result-back 1 ∙ result-at (4 * c + 1) 1 (omega arith) (omega arith))
+      (p2 ∙ g 2 ∙ result-back 2 ∙ result-at (4 * c + 2) 2 (omega arith) (omega arith))
+      (p3 ∙ g 3 ∙ result-back 3 ∙ result-at (4 * c + 3) 3 (omega arith) (omega arith)))

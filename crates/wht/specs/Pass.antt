@@ -1,9 +1,8 @@
 -- The steps of the inverse WHT as the code takes them: a pass over the columns writes its results as rows, so that two of the same passes, and
 -- the rounding, are the transform.
-use Rattle.std.specs.Prelude.{ℕ, ◌/◌, ◌%◌, ◌≤◌, List, ℤ, pos, nat_abs, get_or}
+use Rattle.std.specs.Prelude.{ℕ, ◌/◌, ◌%◌, ◌≤◌, List, [], ◌∷◌, ℤ, pos, nat_abs, get_or}
 use Rattle.lists.specs.Lists.{table}
 use Rattle.rfc6386.specs.Wht.{wht_pass, wht_column, wht_round}
-use Rattle.wht.specs.declared.Four.{Four}
 
 -- numbers of magnitude at most B
 pub record Small (B : ℕ) (i0 i1 i2 i3 : ℤ) : Type 0 where
@@ -15,8 +14,8 @@ pub record Small (B : ℕ) (i0 i1 i2 i3 : ℤ) : Type 0 where
 pub record Within (B : ℕ) (l : List ℤ) : Type 0 where
   pub within : (k : ℕ) → nat_abs (get_or l k (pos 0)) ≤ B
 
-unfoldable pub line_of : ℤ → ℤ → ℤ → ℤ → Four
-line_of i0 i1 i2 i3 = record { x0 = wht_pass 0 i0 i1 i2 i3; x1 = wht_pass 1 i0 i1 i2 i3; x2 = wht_pass 2 i0 i1 i2 i3; x3 = wht_pass 3 i0 i1 i2 i3 }
+unfoldable pub line_of : ℤ → ℤ → ℤ → ℤ → List ℤ
+line_of i0 i1 i2 i3 = wht_pass 0 i0 i1 i2 i3 ∷ wht_pass 1 i0 i1 i2 i3 ∷ wht_pass 2 i0 i1 i2 i3 ∷ wht_pass 3 i0 i1 i2 i3 ∷ []
 
 -- number i after a pass: result i % 4 of column i / 4
 abbrev pub passed_at : List ℤ → ℕ → ℤ

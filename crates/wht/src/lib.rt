@@ -15,16 +15,10 @@ ghost use Rattle.std.specs.Prelude.{◌≡◌, ◌≤◌, nat_abs};
 ghost use Rattle.rfc6386.specs.Wht.{wht_round, iwht, iwht_dc};
 ghost use Rattle.wht.specs.Pass.{Small, Within, line_of, passed, rounded_of};
 
-// The four results of a column.
-#[derive(Clone, Copy)]
-struct Four {
-    x0: i32,
-    x1: i32,
-    x2: i32,
-    x3: i32,
-}
+use std::array;
 
-fn line(i0: i32, i1: i32, i2: i32, i3: i32) -> Four
+// The four results of a column.
+fn line(i0: i32, i1: i32, i2: i32, i3: i32) -> [i32; 4]
     requires { Small 131072 i0 i1 i2 i3 }
     ensures { result ≡ line_of i0 i1 i2 i3 }
 {
@@ -32,12 +26,7 @@ fn line(i0: i32, i1: i32, i2: i32, i3: i32) -> Four
     let b = i1 + i2;
     let c = i1 - i2;
     let d = i0 - i3;
-    Four {
-        x0: a + b,
-        x1: c + d,
-        x2: a - b,
-        x3: d - c,
-    }
+    [a + b, c + d, a - b, d - c]
 }
 
 fn pass(x: [i32; 16]) -> [i32; 16]
@@ -45,12 +34,9 @@ fn pass(x: [i32; 16]) -> [i32; 16]
     ensures { result ≡ passed x }
 {
     let mut t = [0i32; 16];
+    // Kept: no plainer, since each turn reads a column and writes a row.
     for c in 0..4 {
-        let f = line(x[c], x[4 + c], x[8 + c], x[12 + c]);
-        let v0 = f.x0;
-        let v1 = f.x1;
-        let v2 = f.x2;
-        let v3 = f.x3;
+        let [v0, v1, v2, v3] = line(x[c], x[4 + c], x[8 + c], x[12 + c]);
         t[4 * c] = v0;
         t[4 * c + 1] = v1;
         t[4 * c + 2] = v2;
@@ -63,12 +49,7 @@ fn pass(x: [i32; 16]) -> [i32; 16]
 fn widened(input: [i16; 16]) -> [i32; 16]
     ensures { result ≡ input }
 {
-    let mut t = [0i32; 16];
-    for k in 0..16 {
-        let v = whole::widen(input[k]);
-        t[k] = v;
-    }
-    t
+    array::from_fn(|k| i32::from(input[k]))
 }
 
 // An eighth, rounded, kept in 16 bits.
@@ -83,12 +64,7 @@ fn rounded(x: [i32; 16]) -> [i16; 16]
     requires { Within 524288 x }
     ensures { result ≡ rounded_of x }
 {
-    let mut t = [0i16; 16];
-    for k in 0..16 {
-        let v = round(x[k]);
-        t[k] = v;
-    }
-    t
+    array::from_fn(|k| round(x[k]))
 }
 
 // The inverse WHT of a block in raster order.
@@ -102,6 +78,6 @@ pub fn inverse_wht_4x4(input: [i16; 16]) -> [i16; 16]
 pub fn inverse_wht_4x4_dc_only(dc: i16) -> [i16; 16]
     ensures { result ≡ iwht_dc dc }
 {
-    let v = round(whole::widen(dc));
+    let v = round(i32::from(dc));
     [v; 16]
 }

@@ -1,16 +1,15 @@
--- The luma read out row by row. Assumes nothing.
-use Prim.Native.Nat.{ℕ, ◌+◌, ◌*◌}
-use mathlib.Core.Path.{◌≡◌}
+-- A part of a list, by its elements. Assumes nothing.
+use Prim.Native.Nat.{ℕ, ◌+◌, ◌-◌, ◌≤◌}
+use mathlib.Core.Path.{◌≡◌, sym, ◌∙◌}
 use mathlib.Core.List.{List}
-use lib.Dec.{lit<}
-use lib.ListN.{length, get_or}
-use Rattle.lists.specs.Lists.{turns, store}
-use Rattle.lists.proofs.Each.{rows-each}
-use Rattle.rfc6386.specs.Walk.{luma_of}
+use native.Mathlib.Nat.{add-sub_cancel_left}
+use native.Mathlib.Omega.{arith}
+use lib.ListN.{length, get_or, take, drop, length-drop}
+use lib.Seq.{get_or-drop}
+use Rattle.lists.specs.Lists.{table}
+use Rattle.lists.proofs.Table.{table-take, table-ext}
 
-abbrev pub luma_row : List ℕ → ℕ → List ℕ → List ℕ
-luma_row b r = turns 16 (store (λ c. r * 16 + c) (λ c. get_or b (22 + 21 * r + c) 0))
-
-pub luma-rows : (b z : List ℕ) → length z ≡ 256 → turns 16 (luma_row b) z ≡ luma_of b
-unfolding luma_of
-luma-rows b z e = rows-each 0 16 16 (λ r c x. get_or b (22 + 21 * r + c) 0) z (lit< tt) e
+pub part-is : (b : List ℕ) (at n : ℕ) → at + n ≤ length b → take (at + n - at) (drop at b) ≡ table n (λ c. get_or b (at + c) 0)
+part-is b at n h =
+    rw add-sub_cancel_left
+    (sym (table-take n (drop at b) 0 (rw length-drop (omega arith))) ∙ table-ext n _ _ (λ i q. get_or-drop at b i 0))

@@ -11,11 +11,11 @@
 //             ..
 //        row 16   l . . . . . . . . . . . . . . . . - - - -      - is never read
 ghost use Rattle.std.specs.Prelude.{◌≡◌, ◌+◌, ◌*◌, ◌<◌, ◌≤◌, length};
-ghost use Rattle.lists.specs.Lists.{pick, part};
-ghost use Rattle.rfc6386.specs.Edges.{edge_or};
+ghost use Rattle.lists.specs.Lists.{part};
 ghost use Rattle.rfc6386.specs.Walk.{laid, blank, copied_down, bordered, row_or, start_of};
-ghost use Rattle.work_buffer.specs.Steps.{covered, first_row};
+ghost use Rattle.work_buffer.specs.Steps.{first_row};
 
+use intra_edges::{edge_or, pixel_or};
 use macroblock::{LumaEdges, MbNeighbors};
 
 pub const LENGTH: usize = 17 * MbNeighbors::STRIDE;
@@ -25,11 +25,13 @@ fn lay(b: &mut [u8; LENGTH], at: usize, step: usize, s: &[u8], n: usize)
     requires { (n ≤ length s.now) × (0 < step) × (at + n * step ≤ 357) }
     ensures { b.new ≡ laid n at step s.now b.old }
 {
+    // Kept: no plainer, since one loop with a step lays the row, the left column and what is copied down.
     for i in 0..n {
         b[at + i * step] = s[i];
     }
 }
 
+// Kept: an array of zeros with an equation, for the proofs above.
 fn blank() -> [u8; LENGTH]
     ensures { result ≡ blank }
 {
@@ -45,38 +47,32 @@ const BELOW: usize = 17 + FOUR_ROWS;
 fn copy_down(b: &mut [u8; LENGTH], right: &[u8; 4])
     ensures { b.new ≡ copied_down right.now b.old }
 {
+    // Kept: no plainer: i is the row of four, and indexes nothing here.
     for i in 0..3 {
         lay(b, BELOW + FOUR_ROWS * i, 1, right, 4);
     }
 }
 
-// 127 over the `n` pixels of a row from `at` on, unless they are there.
-fn cover(row: &mut [u8; MbNeighbors::STRIDE], at: usize, n: usize, there: bool)
-    requires { at + n ≤ 21 }
-    ensures { row.new ≡ pick there row.old (covered at n row.old) }
-{
-    if there {
-        return;
-    }
-    for i in 0..n {
-        row[at + i] = MbNeighbors::ABOVE;
-    }
-}
-
-// Row 0: the record's row, with 127 over each part that is absent.
+// Row 0: the record's row, with 127 in the place of each part that is absent: the first pixel, the next sixteen, the last four.
 fn first_row(
     given: [u8; MbNeighbors::STRIDE],
+    // Kept: the marks of the neighbour record, as it has them.
     topleft_there: bool,
     above_there: bool,
     above_right_there: bool,
 ) -> [u8; MbNeighbors::STRIDE]
     ensures { result ≡ first_row given topleft_there above_there above_right_there }
 {
-    let mut row = given;
-    cover(&mut row, 0, 1, topleft_there);
-    cover(&mut row, 1, 16, above_there);
-    cover(&mut row, 17, 4, above_right_there);
-    row
+    std::array::from_fn(|i| {
+        let there = if i < 1 {
+            topleft_there
+        } else if i < 17 {
+            above_there
+        } else {
+            above_right_there
+        };
+        pixel_or(MbNeighbors::ABOVE, given[i], there)
+    })
 }
 
 // The last four of row 0.
@@ -97,23 +93,18 @@ fn bordered(row: [u8; MbNeighbors::STRIDE], left: [u8; 16]) -> [u8; LENGTH]
     b
 }
 
-fn edge_or(other: u8, pixels: [u8; 16], there: bool) -> [u8; 16]
-    ensures { result ≡ edge_or 16 other pixels there }
-{
-    if there { pixels } else { [other; 16] }
-}
-
 // The border pixels in their places; what stands for an absent one is 127 in the row above, 129 to the left.
 pub fn start(edges: LumaEdges) -> [u8; LENGTH]
     ensures { result ≡ start_of edges }
 {
-    let given = edges.row;
-    let left = edges.left;
     let row = first_row(
-        given,
+        edges.row,
         edges.topleft_there,
         edges.above_there,
         edges.above_right_there,
     );
-    bordered(row, edge_or(MbNeighbors::LEFT, left, edges.left_there))
+    bordered(
+        row,
+        edge_or(MbNeighbors::LEFT, edges.left, edges.left_there),
+    )
 }

@@ -11,7 +11,7 @@ use Rattle.lists.proofs.Pairs.{pair}
 use Rattle.rfc6386.specs.Picture.{neighbors_of}
 use Rattle.picture_limits.proofs.Accepted.{Within, Lengths}
 use Rattle.record_bytes.specs.Bytes.{bytes_of}
-use Rattle.gathering.specs.declared.Gathered.{Gathered}
+use Rattle.gathering.specs.Answers.{Gathered}
 use Rattle.gathering.specs.Answers.{gathered, refused}
 use Rattle.gathering.proofs.Gathers.{place-refused, lengths-refused, accepted}
 use Rattle.zopredil.specs.Neighbours.{gather_answer}

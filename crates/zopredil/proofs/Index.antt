@@ -1,22 +1,20 @@
 -- The raster index of a refusal is at most 2^20, so that the number fits 64 bits. Assumes nothing.
-use Prim.Native.Nat.{ℕ, zero, suc, ◌+◌, ◌*◌, ◌≤◌}
+use Prim.Native.Nat.{ℕ, zero, suc, ◌*◌, ◌≤◌}
 use mathlib.Core.Bool.{Bool, true, false}
-use mathlib.Core.Path.{◌≡◌, refl, ap}
-use mathlib.Core.List.{List, [], ◌∷◌}
+use mathlib.Core.Path.{◌≡◌, refl, ap, ◌∙◌}
+use mathlib.Core.List.{List}
 use native.Mathlib.Nat.{le_trans}
 use native.Mathlib.Omega.{arith}
 use lib.Dec.{eqb}
 use lib.IntN.{ℤ}
-use lib.ListN.{length}
 use Rattle.lists.specs.Lists.{turns, pick, ◌beside◌}
-use Rattle.slices.specs.Copies.{put_in}
-use Rattle.slices.proofs.Copied.{put_fit}
-use Rattle.still.specs.declared.StillReply.{StillReply}
+use Rattle.std.specs.Prelude.{Result, Ok, Err}
+use Rattle.still.specs.declared.StillRefusal.{StillRefusal}
 use Rattle.still.specs.Picture.{Progress, progress, drawn_at, turn, first, picture, right_given, right_read}
 use Rattle.still.specs.Answers.{told, alone_fits, still_fits, still_answer, alone_answer}
 use Rattle.rfc6386.specs.Picture.{size_ok}
 use Rattle.still.proofs.Sizes.{size-says, at_most}
-use Rattle.zopredil.specs.Stills.{numbered}
+use Rattle.zopredil.specs.Stills.{numbered, number_of, index_of}
 
 -- a turn keeps the index, or sets it to 0 or to its own
 turn-index : (a b : Bool) (k r : ℕ) (y u v : List ℕ) (d : Progress) → d.index ≤ k → (pick a (progress r (pick b 0 k) y u v) d).index ≤ suc k
@@ -60,11 +58,15 @@ module _ (w h : ℕ) (modes subs : List ℕ) (coeffs : List ℤ) where
       tested-index (size_ok w h) (alone_fits w h modes subs coeffs y u v) (picture w h modes subs coeffs (right_read w h) y u v) 1 7 y u v
       (λ e. le_trans (picture-index w h modes subs coeffs (right_read w h) y u v) (few e))
 
--- what is told, as a number
-pub counted : (r : StillReply) (y u v l clipped : List ℕ) (z : Progress × ℕ) (k : ℕ) → length clipped ≡ 1 → told r y u v ≡ z
-    → k ≡ r.index * 256 + r.reply → l ≡ put_in 1 (r.clipped ∷ []) clipped → (k beside y beside u beside v beside l) ≡ numbered z
+-- what is told, as a number beside the planes and the count
+pub numbers-told : (r : Result ℕ StillRefusal) (y u v : List ℕ) (z : Progress × ℕ) {k : ℕ} {l : List ℕ} → told r y u v ≡ z
+    → (k beside l) ≡ number_of r → (k beside y beside u beside v beside l) ≡ numbered z
 unfolding numbered
-counted r y u v l clipped z k one e i f = rw (i, f, put_fit 1 (r.clipped ∷ []) clipped one) (ap numbered e)
+numbers-told (Ok n) y u v z e h =
+    ap (λ (x : ℕ × List ℕ). x.0 beside y beside u beside v beside x.1) h ∙ ap numbered e
+numbers-told (Err r) y u v z e h =
+    ap (λ (x : ℕ × List ℕ). x.0 beside y beside u beside v beside x.1) h ∙ ap numbered e
 
-pub index_of : (r : StillReply) (y u v : List ℕ) (z : Progress × ℕ) → told r y u v ≡ z → z.0.index ≤ 1048576 → r.index ≤ 1048576
-index_of r y u v z e h = rw (ap (λ (z : Progress × ℕ). z.0.index) e) h
+pub index-told : (r : Result ℕ StillRefusal) (y u v : List ℕ) (z : Progress × ℕ) → told r y u v ≡ z → z.0.index ≤ 1048576 → index_of r ≤ 1048576
+index-told (Ok n) y u v z e h = omega arith
+index-told (Err r) y u v z e h = rw (ap (λ (z : Progress × ℕ). z.0.index) e) h

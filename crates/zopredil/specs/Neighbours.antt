@@ -2,15 +2,19 @@
 use Rattle.std.specs.Prelude.{ℕ, List}
 use Rattle.lists.specs.Lists.{pick, both, sized, ◌beside◌}
 use Rattle.macroblock.specs.Reply.{wrong_length}
-use Rattle.gathering.specs.Answers.{gathered}
+use Rattle.gathering.specs.Answers.{Gathered, gathered}
 use Rattle.record_bytes.specs.Bytes.{bytes_of}
 use Rattle.right_pixels.specs.Answers.{right_pixels}
+
+-- gathering's reply, beside the bytes of its neighbours
+abbrev pub bytes_told : Gathered → ℕ × List ℕ
+bytes_told g = g.reply beside bytes_of g.neighbors
 
 -- reply 1, and nothing written, unless the record has 81 bytes and `right` 4; else gathering's reply beside the bytes of its neighbours
 unfoldable pub gather_answer : List ℕ → List ℕ → List ℕ → ℕ → ℕ → ℕ → ℕ → List ℕ → List ℕ → ℕ × List ℕ
 gather_answer y u v w h c r right «record» =
     pick (both (sized 81 «record») (sized 4 right))
-    ((gathered y u v w h c r right).reply beside bytes_of (gathered y u v w h c r right).neighbors)
+    (bytes_told (gathered y u v w h c r right))
     (wrong_length beside «record»)
 
 -- the four pixels above right of the last column of macroblock row r; reply 1, and nothing written, for a slice of another length

@@ -18,24 +18,31 @@ edge_fits n edge = pick (eqb edge n) true (eqb edge 0)
 unfoldable pub lengths_fit : ℕ → ℕ → ℕ → ℕ → ℕ → Bool
 lengths_fit n block above left out = both (edge_fits n above) (both (edge_fits n left) (eqb out block))
 
+-- ---- by the number alone, where the lengths fit
+unfoldable pub luma_drawn : ℕ → List ℕ → List ℕ → ℕ → ℕ × List ℕ
+luma_drawn mode above left p =
+    let r = predicted_y (y_mode mode) (or_zeros 0 16 above) (sized 16 above) (or_zeros 0 16 left) (sized 16 left) p in
+    pick (eqb (y_reply mode) done) (r.reply beside r.pixels) (unknown_byte beside replicate 256 0)
+
+unfoldable pub chroma_drawn : ℕ → List ℕ → List ℕ → ℕ → ℕ × List ℕ
+chroma_drawn mode above left p =
+    pick (eqb (uv_reply mode) done)
+    (done beside predict_uv (uv_mode mode) (or_zeros 0 8 above) (sized 8 above) (or_zeros 0 8 left) (sized 8 left) p)
+    (unknown_byte beside replicate 64 0)
+
+unfoldable pub sub_block_drawn : ℕ → List ℕ → List ℕ → ℕ → ℕ × List ℕ
+sub_block_drawn mode above left p =
+    pick (eqb (b_reply mode) done) (done beside predict_b (b_mode mode) above left p) (unknown_byte beside replicate 16 0)
+
 -- ---- the answers
 unfoldable pub luma_answer : ℕ → List ℕ → List ℕ → ℕ → List ℕ → ℕ × List ℕ
 luma_answer mode above left p out =
-    let r = predicted_y (y_mode mode) (or_zeros 0 16 above) (sized 16 above) (or_zeros 0 16 left) (sized 16 left) p in
-    pick (lengths_fit 16 256 (length above) (length left) (length out))
-    (pick (eqb (y_reply mode) done) (r.reply beside r.pixels) (unknown_byte beside replicate 256 0))
-    (wrong_length beside out)
+    pick (lengths_fit 16 256 (length above) (length left) (length out)) (luma_drawn mode above left p) (wrong_length beside out)
 
 unfoldable pub chroma_answer : ℕ → List ℕ → List ℕ → ℕ → List ℕ → ℕ × List ℕ
 chroma_answer mode above left p out =
-    pick (lengths_fit 8 64 (length above) (length left) (length out))
-    (pick (eqb (uv_reply mode) done)
-    (done beside predict_uv (uv_mode mode) (or_zeros 0 8 above) (sized 8 above) (or_zeros 0 8 left) (sized 8 left) p)
-    (unknown_byte beside replicate 64 0))
-    (wrong_length beside out)
+    pick (lengths_fit 8 64 (length above) (length left) (length out)) (chroma_drawn mode above left p) (wrong_length beside out)
 
 unfoldable pub sub_block_answer : ℕ → List ℕ → List ℕ → ℕ → List ℕ → ℕ × List ℕ
 sub_block_answer mode above left p out =
-    pick (both (sized 8 above) (both (sized 4 left) (sized 16 out)))
-    (pick (eqb (b_reply mode) done) (done beside predict_b (b_mode mode) above left p) (unknown_byte beside replicate 16 0))
-    (wrong_length beside out)
+    pick (both (sized 8 above) (both (sized 4 left) (sized 16 out))) (sub_block_drawn mode above left p) (wrong_length beside out)

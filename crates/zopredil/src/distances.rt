@@ -3,6 +3,8 @@ ghost use Rattle.std.specs.Prelude.{◌≡◌};
 ghost use Rattle.lists.specs.Lists.{◌beside◌};
 ghost use Rattle.distance.specs.Answer.{distance_answer};
 
+use crate::answers::number;
+
 pub fn zopredil_distance(
     sizes: &[u32],
     drawn: &[u8],
@@ -13,5 +15,5 @@ pub fn zopredil_distance(
     ensures { (result beside reports.new beside totals.new)
         ≡ distance_answer sizes.now drawn.now measured.now reports.old totals.old }
 {
-    distance::distance(sizes, drawn, measured, reports, totals)
+    number(distance::distance(sizes, drawn, measured, reports, totals))
 }

@@ -2,6 +2,8 @@
 ghost use Rattle.std.specs.Prelude.{◌≡◌};
 ghost use Rattle.loop_filter.specs.Answers.{filter_answer, levels_answer};
 
+use crate::answers::number;
+
 pub fn zopredil_filter(
     cols: usize,
     rows: usize,
@@ -16,7 +18,7 @@ pub fn zopredil_filter(
     ensures { (result, y.new, u.new, v.new)
         ≡ filter_answer cols rows kind level sharpness inner.now y.old u.old v.old }
 {
-    loop_filter::filter(cols, rows, kind, level, sharpness, inner, y, u, v)
+    number(loop_filter::filter(cols, rows, kind, level, sharpness, inner, y, u, v))
 }
 
 pub fn zopredil_filter_levels(
@@ -33,5 +35,5 @@ pub fn zopredil_filter_levels(
     ensures { (result, y.new, u.new, v.new)
         ≡ levels_answer cols rows kind sharpness levels.now inner.now y.old u.old v.old }
 {
-    loop_filter::filter_levels(cols, rows, kind, sharpness, levels, inner, y, u, v)
+    number(loop_filter::filter_levels(cols, rows, kind, sharpness, levels, inner, y, u, v))
 }

@@ -1,18 +1,20 @@
 // Macroblocks from their bytes, drawn one in a call and as a shelf; a neighbour record is 81 bytes.
-ghost use Rattle.std.specs.Prelude.{◌≡◌};
-ghost use Rattle.lists.specs.Lists.{◌beside◌};
+ghost use Rattle.std.specs.Prelude.{◌≡◌, length, get_or};
+ghost use Rattle.lists.specs.Lists.{sized, ◌beside◌};
+ghost use Rattle.slices.specs.Copies.{or_zeros};
+ghost use Rattle.reconstruct.specs.Answers.{told};
+ghost use Rattle.drawing.specs.Drawn.{drawn_bytes};
 ghost use Rattle.shelf_items.specs.Shelf.{bytes_answer};
 ghost use Rattle.zopredil.specs.Macroblocks.{sub_modes_fit, lengths_fit, mb_answer};
 
-use macroblock::reply;
+use crate::answers::number;
+use macroblock::{Refusal, reply};
+use reconstruct::ReconstructedMb;
 
 fn sub_modes_fit(sub_modes: usize) -> bool
     ensures { result ≡ sub_modes_fit sub_modes }
 {
-    if sub_modes == 16 {
-        return true;
-    }
-    sub_modes == 0
+    sub_modes == 16 || sub_modes == 0
 }
 
 fn lengths_fit(
@@ -25,22 +27,7 @@ fn lengths_fit(
 ) -> bool
     ensures { result ≡ lengths_fit modes sub_modes «record» coeffs out clipped }
 {
-    if modes != 3 {
-        return false;
-    }
-    if !sub_modes_fit(sub_modes) {
-        return false;
-    }
-    if record != 81 {
-        return false;
-    }
-    if coeffs != 400 {
-        return false;
-    }
-    if out != 384 {
-        return false;
-    }
-    clipped == 1
+    sub_modes_fit(sub_modes) && (modes, record, coeffs, out, clipped) == (3, 81, 400, 384, 1)
 }
 
 // The macroblock that the bytes stand for, 384 pixels: Y, U, V; and into clipped, a slice of 1, how many sums were below 0 or
@@ -67,34 +54,47 @@ pub fn zopredil_macroblock(
         clipped.len(),
     );
     if !fit {
-        return reply::WRONG_LENGTH;
+        return Refusal::WrongLength.number();
     }
-    let bytes = slices::record_of(record);
+    match drawn(modes, sub_modes, record, coeffs) {
+        Ok(mb) => {
+            slices::put_planes(out, &mb.y, &mb.u, &mb.v);
+            slices::put_count(clipped, u64::from(mb.clipped));
+            reply::DONE
+        }
+        Err(refusal) => {
+            slices::clear(out);
+            slices::put_count(clipped, 0);
+            refusal.number()
+        }
+    }
+}
+
+// Of slices whose lengths fit.
+fn drawn(
+    modes: &[u8],
+    sub_modes: &[u8],
+    record: &[u8],
+    coeffs: &[i16],
+) -> Result<ReconstructedMb, Refusal>
+    requires { (length modes.now ≡ 3) × (length «record».now ≡ 81) }
+    ensures { told result
+        ≡ drawn_bytes (get_or modes.now 0 0) (get_or modes.now 1 0) (get_or modes.now 2 0)
+        (or_zeros 0 16 sub_modes.now) (sized 16 sub_modes.now) «record».now coeffs.now }
+{
+    let bytes = slices::array(record, 0);
     if !record_bytes::marks_known(bytes) {
-        slices::clear(out);
-        slices::put_count(clipped, 0);
-        return reply::UNKNOWN_BYTE;
+        return Err(Refusal::UnknownByte);
     }
-    let subs = slices::sixteen(sub_modes);
-    let neighbors = record_bytes::neighbors_of(bytes);
-    let luma = modes[0];
-    let chroma = modes[1];
-    let skip = modes[2];
-    let drawn = drawing::draw(
-        luma,
-        chroma,
-        skip,
-        subs,
+    drawing::draw(
+        modes[0],
+        modes[1],
+        modes[2],
+        slices::array(sub_modes, 0),
         sub_modes.len() == 16,
-        neighbors,
+        record_bytes::neighbors_of(bytes),
         coeffs,
-    );
-    let y = drawn.y;
-    let u = drawn.u;
-    let v = drawn.v;
-    slices::put_planes(out, y, u, v);
-    slices::put_count(clipped, drawn.clipped as u64);
-    drawn.reply
+    )
 }
 
 // A shelf of loose macroblocks: `shelf_items::shelf_bytes`.
@@ -111,5 +111,5 @@ pub fn zopredil_shelf(
         ≡ bytes_answer modes.now records.now sub_modes.now coeffs.now
         out.old replies.old clipped.old }
 {
-    shelf_items::shelf_bytes(modes, records, sub_modes, coeffs, out, replies, clipped)
+    number(shelf_items::shelf_bytes(modes, records, sub_modes, coeffs, out, replies, clipped))
 }

@@ -1,9 +1,12 @@
 // The neighbours of a macroblock in a picture.
 ghost use Rattle.std.specs.Prelude.{◌≡◌};
 ghost use Rattle.lists.specs.Lists.{◌beside◌};
-ghost use Rattle.zopredil.specs.Neighbours.{gather_answer, right_answer};
+ghost use Rattle.gathering.specs.Answers.{gathered};
+ghost use Rattle.zopredil.specs.Told.{told};
+ghost use Rattle.zopredil.specs.Neighbours.{bytes_told, gather_answer, right_answer};
 
-use macroblock::reply;
+use crate::answers::answer;
+use macroblock::Refusal;
 
 // The neighbour record as 81 bytes. Refused first: a record of another length than 81 or right-hand pixels of another number than 4 (1, nothing written);
 // then as `gathering::gather` refuses, the record all zeros: every edge absent.
@@ -22,15 +25,29 @@ pub fn zopredil_gather(
         ≡ gather_answer y.now u.now v.now cols rows col row right.now «record».old }
 {
     if record.len() != 81 {
-        return reply::WRONG_LENGTH;
+        return Refusal::WrongLength.number();
     }
     if right.len() != 4 {
-        return reply::WRONG_LENGTH;
+        return Refusal::WrongLength.number();
     }
-    let g = gathering::gather(y, u, v, cols, rows, col, row, slices::four(right));
-    let bytes = record_bytes::bytes_of(g.neighbors);
-    slices::copy(record, &bytes);
-    g.reply
+    let bytes = gathered(y, u, v, cols, rows, col, row, slices::array(right, 0));
+    answer(record, bytes, 0)
+}
+
+fn gathered(
+    y: &[u8],
+    u: &[u8],
+    v: &[u8],
+    cols: usize,
+    rows: usize,
+    col: usize,
+    row: usize,
+    right: [u8; 4],
+) -> Result<[u8; 81], Refusal>
+    ensures { told 0 81 result ≡ bytes_told (gathered y.now u.now v.now cols rows col row right) }
+{
+    let neighbors = gathering::gather(y, u, v, cols, rows, col, row, right)?;
+    Ok(record_bytes::bytes_of(neighbors))
 }
 
 // The four pixels above right of the last column of macroblock row `row`. Refused first: a slice of another length than 4
@@ -39,10 +56,7 @@ pub fn zopredil_right_pixels(y: &[u8], cols: usize, rows: usize, row: usize, out
     ensures { (result beside out.new) ≡ right_answer y.now cols rows row out.old }
 {
     if out.len() != 4 {
-        return reply::WRONG_LENGTH;
+        return Refusal::WrongLength.number();
     }
-    let p = right_pixels::right_pixels(y, cols, rows, row);
-    let pixels = p.pixels;
-    slices::copy(out, &pixels);
-    p.reply
+    answer(out, right_pixels::right_pixels(y, cols, rows, row), 0)
 }

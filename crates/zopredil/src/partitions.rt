@@ -2,10 +2,12 @@
 ghost use Rattle.std.specs.Prelude.{◌≡◌};
 ghost use Rattle.partition.specs.Answers.{start_answer, tokens_answer};
 
+use crate::answers::number;
+
 pub fn zopredil_bool_start(partition: &[u8], state: &mut [u64]) -> u32
     ensures { (result, state.new) ≡ start_answer partition.now state.old }
 {
-    partition::bool_start(partition, state)
+    number(partition::bool_start(partition, state))
 }
 
 pub fn zopredil_tokens(
@@ -20,5 +22,5 @@ pub fn zopredil_tokens(
     ensures { (result, above.new, left.new, state.new, coeffs.new)
         ≡ tokens_answer partition.now probabilities.now y2 above.old left.old state.old coeffs.old }
 {
-    partition::tokens(partition, probabilities, y2, above, left, state, coeffs)
+    number(partition::tokens(partition, probabilities, y2, above, left, state, coeffs))
 }

@@ -1,31 +1,24 @@
 // The predictors of RFC 6386, section 12, by a mode's number. Reply 1, and nothing written, for a slice of another length than
 // it must have; 8, and zeros written, for a number that is no mode's.
-ghost use Rattle.std.specs.Prelude.{◌≡◌};
+ghost use Rattle.std.specs.Prelude.{◌≡◌, length};
 ghost use Rattle.lists.specs.Lists.{◌beside◌};
-ghost use Rattle.zopredil.specs.Predictions.{edge_fits, lengths_fit, luma_answer, chroma_answer, sub_block_answer};
+ghost use Rattle.zopredil.specs.Predictions.{edge_fits, lengths_fit, luma_drawn, chroma_drawn, sub_block_drawn, luma_answer, chroma_answer, sub_block_answer};
+ghost use Rattle.zopredil.specs.Told.{told};
 
-use macroblock::reply;
+use crate::answers::answer;
+use macroblock::{IntraBmode, IntraUvMode, IntraYMode, Refusal};
 
 // An edge of n pixels, or an absent one.
 fn edge_fits(edge: usize, n: usize) -> bool
     ensures { result ≡ edge_fits n edge }
 {
-    if edge == n {
-        return true;
-    }
-    edge == 0
+    edge == n || edge == 0
 }
 
 fn lengths_fit(n: usize, block: usize, above: usize, left: usize, out: usize) -> bool
     ensures { result ≡ lengths_fit n block above left out }
 {
-    if !edge_fits(above, n) {
-        return false;
-    }
-    if !edge_fits(left, n) {
-        return false;
-    }
-    out == block
+    edge_fits(above, n) && edge_fits(left, n) && out == block
 }
 
 // 16x16 luma: edges of 16, or empty where they are absent; 256 pixels out. Mode B is refused (reply 3, zeros written).
@@ -33,19 +26,23 @@ pub fn zopredil_predict_y16x16(mode: u8, above: &[u8], left: &[u8], p: u8, out: 
     ensures { (result beside out.new) ≡ luma_answer mode above.now left.now p out.old }
 {
     if !lengths_fit(16, 256, above.len(), left.len(), out.len()) {
-        return reply::WRONG_LENGTH;
+        return Refusal::WrongLength.number();
     }
-    if macroblock::y_reply(mode) != reply::DONE {
-        slices::clear(out);
-        return reply::UNKNOWN_BYTE;
-    }
-    let a = slices::sixteen(above);
-    let l = slices::sixteen(left);
-    let y = macroblock::y_mode(mode);
-    let predicted = intra_predict::predict_y16x16(y, a, above.len() == 16, l, left.len() == 16, p);
-    let pixels = predicted.pixels;
-    slices::put_luma(out, pixels);
-    predicted.reply
+    answer(out, luma(mode, above, left, p), 0)
+}
+
+fn luma(mode: u8, above: &[u8], left: &[u8], p: u8) -> Result<[u8; 256], Refusal>
+    ensures { told 0 256 result ≡ luma_drawn mode above.now left.now p }
+{
+    let mode = IntraYMode::try_from(mode)?;
+    intra_predict::predict_y16x16(
+        mode,
+        slices::array(above, 0),
+        above.len() == 16,
+        slices::array(left, 0),
+        left.len() == 16,
+        p,
+    )
 }
 
 // 8x8 chroma: edges of 8, or empty where they are absent; 64 pixels out.
@@ -53,18 +50,23 @@ pub fn zopredil_predict_uv8x8(mode: u8, above: &[u8], left: &[u8], p: u8, out: &
     ensures { (result beside out.new) ≡ chroma_answer mode above.now left.now p out.old }
 {
     if !lengths_fit(8, 64, above.len(), left.len(), out.len()) {
-        return reply::WRONG_LENGTH;
+        return Refusal::WrongLength.number();
     }
-    if macroblock::uv_reply(mode) != reply::DONE {
-        slices::clear(out);
-        return reply::UNKNOWN_BYTE;
-    }
-    let a = slices::eight(above);
-    let l = slices::eight(left);
-    let uv = macroblock::uv_mode(mode);
-    let pixels = intra_predict::predict_uv8x8(uv, a, above.len() == 8, l, left.len() == 8, p);
-    slices::put_chroma(out, pixels);
-    reply::DONE
+    answer(out, chroma(mode, above, left, p), 0)
+}
+
+fn chroma(mode: u8, above: &[u8], left: &[u8], p: u8) -> Result<[u8; 64], Refusal>
+    ensures { told 0 64 result ≡ chroma_drawn mode above.now left.now p }
+{
+    let mode = IntraUvMode::try_from(mode)?;
+    Ok(intra_predict::predict_uv8x8(
+        mode,
+        slices::array(above, 0),
+        above.len() == 8,
+        slices::array(left, 0),
+        left.len() == 8,
+        p,
+    ))
 }
 
 // A 4x4 luma sub-block: eight pixels above, four on the left, 16 pixels out.
@@ -72,20 +74,21 @@ pub fn zopredil_predict_b4x4(mode: u8, above: &[u8], left: &[u8], p: u8, out: &m
     ensures { (result beside out.new) ≡ sub_block_answer mode above.now left.now p out.old }
 {
     if above.len() != 8 {
-        return reply::WRONG_LENGTH;
+        return Refusal::WrongLength.number();
     }
     if left.len() != 4 {
-        return reply::WRONG_LENGTH;
+        return Refusal::WrongLength.number();
     }
     if out.len() != 16 {
-        return reply::WRONG_LENGTH;
+        return Refusal::WrongLength.number();
     }
-    if macroblock::b_reply(mode) != reply::DONE {
-        slices::clear(out);
-        return reply::UNKNOWN_BYTE;
-    }
-    let b = macroblock::b_mode(mode);
-    let pixels = intra_predict::predict_b4x4(b, slices::eight(above), slices::four(left), p);
-    slices::put_sub_block(out, pixels);
-    reply::DONE
+    answer(out, sub_block(mode, above, left, p), 0)
+}
+
+fn sub_block(mode: u8, above: &[u8], left: &[u8], p: u8) -> Result<[u8; 16], Refusal>
+    requires { (length above.now ≡ 8) × (length left.now ≡ 4) }
+    ensures { told 0 16 result ≡ sub_block_drawn mode above.now left.now p }
+{
+    let mode = IntraBmode::try_from(mode)?;
+    Ok(intra_predict::predict_b4x4(mode, slices::array(above, 0), slices::array(left, 0), p))
 }

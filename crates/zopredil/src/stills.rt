@@ -1,15 +1,26 @@
 // Whole stills, the answer as one number: the raster index times 256, plus the reply.
-ghost use Rattle.std.specs.Prelude.{◌≡◌, ◌+◌, ◌*◌, ◌≤◌};
+ghost use Rattle.std.specs.Prelude.{◌≡◌, ◌≤◌, length};
 ghost use Rattle.lists.specs.Lists.{◌beside◌};
-ghost use Rattle.zopredil.specs.Stills.{early, still_number, alone_number};
+ghost use Rattle.zopredil.specs.Stills.{early, still_number, alone_number, number_of, index_of};
 
-use still::StillReply;
+use macroblock::Refusal;
+use still::StillRefusal;
 
-fn number(told: StillReply) -> u64
-    requires { told.index ≤ 1048576 }
-    ensures { result ≡ told.index * 256 + told.reply }
+// The count into its slice, and the number.
+fn answer(clipped: &mut [u64], drawn: Result<u64, StillRefusal>) -> u64
+    requires { (length clipped.old ≡ 1) × (index_of drawn ≤ 1048576) }
+    ensures { (result beside clipped.new) ≡ number_of drawn }
 {
-    told.index as u64 * 256 + told.reply as u64
+    match drawn {
+        Ok(count) => {
+            slices::put_count(clipped, count);
+            0
+        }
+        Err(stopped) => {
+            slices::put_count(clipped, stopped.clipped);
+            stopped.index as u64 * 256 + u64::from(stopped.refusal.number())
+        }
+    }
 }
 
 // The refusal of a call whose count has no place.
@@ -17,9 +28,9 @@ fn early(cols: usize, rows: usize) -> u64
     ensures { result ≡ early cols rows }
 {
     if picture_limits::size_ok(cols, rows) {
-        1
+        u64::from(Refusal::WrongLength.number())
     } else {
-        7
+        u64::from(Refusal::OutsidePicture.number())
     }
 }
 
@@ -43,9 +54,8 @@ pub fn zopredil_still(
     if clipped.len() != 1 {
         return early(cols, rows);
     }
-    let told = still::still(cols, rows, modes, sub_modes, coeffs, right, y, u, v);
-    slices::put_count(clipped, told.clipped);
-    number(told)
+    let drawn = still::still(cols, rows, modes, sub_modes, coeffs, right, y, u, v);
+    answer(clipped, drawn)
 }
 
 // `still::still_alone`.
@@ -67,7 +77,6 @@ pub fn zopredil_still_alone(
     if clipped.len() != 1 {
         return early(cols, rows);
     }
-    let told = still::still_alone(cols, rows, modes, sub_modes, coeffs, y, u, v);
-    slices::put_count(clipped, told.clipped);
-    number(told)
+    let drawn = still::still_alone(cols, rows, modes, sub_modes, coeffs, y, u, v);
+    answer(clipped, drawn)
 }

@@ -1,11 +1,15 @@
 // Dequantising, the transforms and the residue sum of RFC 6386, section 14. Reply 1, and nothing written, for a slice of
 // another length than it must have.
-ghost use Rattle.std.specs.Prelude.{◌≡◌, length};
+ghost use Rattle.std.specs.Prelude.{◌≡◌, pos};
 ghost use Rattle.lists.specs.Lists.{◌beside◌};
-ghost use Rattle.zopredil.specs.Transforms.{factors_answer, dequant_answer, factor_list, six_answer, wht_answer, wht_dc_answer, dct_answer, add_into_answer, residue_answer};
+ghost use Rattle.quantiser.specs.Factors.{y1_factors};
+ghost use Rattle.dequant.specs.Answers.{dequantise_answer};
+ghost use Rattle.residue.specs.Answer.{added_reply, added_into};
+ghost use Rattle.zopredil.specs.Told.{told};
+ghost use Rattle.zopredil.specs.Transforms.{factor_pair, six_made, counted, factors_answer, dequant_answer, six_answer, wht_answer, wht_dc_answer, dct_answer, add_into_answer, residue_answer};
 
-use macroblock::reply;
-use mb_factors::MbDequantFactors;
+use crate::answers::{answer, number};
+use macroblock::{Refusal, reply};
 use quantiser::Y1DequantFactors;
 
 // The luma factors of a quantiser index and its delta: dc, ac. Refused: an index sum outside 32 bits (reply 5; both 0).
@@ -13,14 +17,16 @@ pub fn zopredil_y1_factors(yac_qi: i32, ydc_delta: i32, out: &mut [i16]) -> u32
     ensures { (result beside out.new) ≡ factors_answer yac_qi ydc_delta out.old }
 {
     if out.len() != 2 {
-        return reply::WRONG_LENGTH;
+        return Refusal::WrongLength.number();
     }
-    let f = Y1DequantFactors::from_indices(yac_qi, ydc_delta);
-    let dc = f.dc;
-    let ac = f.ac;
-    out[0] = dc;
-    out[1] = ac;
-    f.reply
+    answer(out, factors(yac_qi, ydc_delta), 0)
+}
+
+fn factors(yac_qi: i32, ydc_delta: i32) -> Result<[i16; 2], Refusal>
+    ensures { told (pos 0) 2 result ≡ factor_pair (y1_factors yac_qi ydc_delta) }
+{
+    let f = Y1DequantFactors::from_indices(yac_qi, ydc_delta)?;
+    Ok([f.dc, f.ac])
 }
 
 // A block of sixteen, dequantised where it stands.
@@ -28,10 +34,10 @@ pub fn zopredil_dequant_block(coeffs: &mut [i16], dc: i16, ac: i16) -> u32
     ensures { (result beside coeffs.new) ≡ dequant_answer coeffs.old dc ac }
 {
     if coeffs.len() != 16 {
-        return reply::WRONG_LENGTH;
+        return Refusal::WrongLength.number();
     }
-    let block = slices::sixteen_numbers(coeffs);
-    slices::put_sixteen(coeffs, quantiser::dequant_block(block, dc, ac));
+    let block = slices::array(coeffs, 0);
+    slices::put(coeffs, &quantiser::dequant_block(block, dc, ac));
     reply::DONE
 }
 
@@ -52,29 +58,26 @@ pub fn zopredil_dequantise(
         ≡ six_answer yac_qi ydc y2dc y2ac uvdc uvac coeffs.old factors.old }
 {
     if factors.len() != 6 {
-        return reply::WRONG_LENGTH;
+        return Refusal::WrongLength.number();
     }
-    let f = dequant::dequantise(yac_qi, ydc, y2dc, y2ac, uvdc, uvac, coeffs);
-    store(factors, f);
-    f.reply
+    let made = dequantised(yac_qi, ydc, y2dc, y2ac, uvdc, uvac, coeffs);
+    answer(factors, made, 0)
 }
 
-fn store(out: &mut [i16], f: MbDequantFactors)
-    requires { length out.old ≡ 6 }
-    ensures { out.new ≡ factor_list f }
+fn dequantised(
+    yac_qi: i32,
+    ydc: i32,
+    y2dc: i32,
+    y2ac: i32,
+    uvdc: i32,
+    uvac: i32,
+    coeffs: &mut [i16],
+) -> Result<[i16; 6], Refusal>
+    ensures { (told (pos 0) 6 result beside coeffs.new)
+        ≡ six_made (dequantise_answer yac_qi ydc y2dc y2ac uvdc uvac coeffs.old) }
 {
-    let y1_dc = f.y1_dc;
-    let y1_ac = f.y1_ac;
-    let y2_dc = f.y2_dc;
-    let y2_ac = f.y2_ac;
-    let uv_dc = f.uv_dc;
-    let uv_ac = f.uv_ac;
-    out[0] = y1_dc;
-    out[1] = y1_ac;
-    out[2] = y2_dc;
-    out[3] = y2_ac;
-    out[4] = uv_dc;
-    out[5] = uv_ac;
+    let f = dequant::dequantise(yac_qi, ydc, y2dc, y2ac, uvdc, uvac, coeffs)?;
+    Ok([f.y1_dc, f.y1_ac, f.y2_dc, f.y2_ac, f.uv_dc, f.uv_ac])
 }
 
 // The inverse WHT of sixteen.
@@ -82,12 +85,12 @@ pub fn zopredil_inverse_wht(input: &[i16], out: &mut [i16]) -> u32
     ensures { (result beside out.new) ≡ wht_answer input.now out.old }
 {
     if input.len() != 16 {
-        return reply::WRONG_LENGTH;
+        return Refusal::WrongLength.number();
     }
     if out.len() != 16 {
-        return reply::WRONG_LENGTH;
+        return Refusal::WrongLength.number();
     }
-    slices::put_sixteen(out, wht::inverse_wht_4x4(slices::sixteen_numbers(input)));
+    slices::put(out, &wht::inverse_wht_4x4(slices::array(input, 0)));
     reply::DONE
 }
 
@@ -96,9 +99,9 @@ pub fn zopredil_inverse_wht_dc_only(dc: i16, out: &mut [i16]) -> u32
     ensures { (result beside out.new) ≡ wht_dc_answer dc out.old }
 {
     if out.len() != 16 {
-        return reply::WRONG_LENGTH;
+        return Refusal::WrongLength.number();
     }
-    slices::put_sixteen(out, wht::inverse_wht_4x4_dc_only(dc));
+    slices::put(out, &wht::inverse_wht_4x4_dc_only(dc));
     reply::DONE
 }
 
@@ -107,12 +110,12 @@ pub fn zopredil_inverse_dct(input: &[i16], out: &mut [i16]) -> u32
     ensures { (result beside out.new) ≡ dct_answer input.now out.old }
 {
     if input.len() != 16 {
-        return reply::WRONG_LENGTH;
+        return Refusal::WrongLength.number();
     }
     if out.len() != 16 {
-        return reply::WRONG_LENGTH;
+        return Refusal::WrongLength.number();
     }
-    slices::put_sixteen(out, dct::inverse_dct_4x4(slices::sixteen_numbers(input)));
+    slices::put(out, &dct::inverse_dct_4x4(slices::array(input, 0)));
     reply::DONE
 }
 
@@ -130,20 +133,32 @@ pub fn zopredil_inverse_dct_add_into(
         ≡ add_into_answer input.now plane.old stride sub_row sub_col clipped.old }
 {
     if input.len() != 16 {
-        return reply::WRONG_LENGTH;
+        return Refusal::WrongLength.number();
     }
     if clipped.len() != 1 {
-        return reply::WRONG_LENGTH;
+        return Refusal::WrongLength.number();
     }
-    let block = slices::sixteen_numbers(input);
-    let told = residue::inverse_dct_4x4_add_into(block, plane, stride, sub_row, sub_col);
-    slices::put_count(clipped, told.clipped as u64);
-    told.reply
+    let count = added(slices::array(input, 0), plane, stride, sub_row, sub_col);
+    answer(clipped, count, 0)
+}
+
+fn added(
+    input: [i16; 16],
+    plane: &mut [u8],
+    stride: usize,
+    sub_row: usize,
+    sub_col: usize,
+) -> Result<[u64; 1], Refusal>
+    ensures { (told 0 1 result ≡ counted (added_reply input stride sub_row sub_col plane.old))
+        × (plane.new ≡ added_into input stride sub_row sub_col plane.old) }
+{
+    let count = residue::inverse_dct_4x4_add_into(input, plane, stride, sub_row, sub_col)?;
+    Ok([u64::from(count)])
 }
 
 // Prediction plus residue, held within 0 and 255; the three lengths are equal.
 pub fn zopredil_add_residue(prediction: &[u8], residue: &[i16], out: &mut [u8]) -> u32
     ensures { (result beside out.new) ≡ residue_answer prediction.now residue.now out.old }
 {
-    residue::add_residue(prediction, residue, out)
+    number(residue::add_residue(prediction, residue, out))
 }

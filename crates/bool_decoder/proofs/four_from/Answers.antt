@@ -6,6 +6,6 @@ pub returns-then-src-at-ge4 : goal.returns-then-src-at-ge4
 returns-then-src-at-ge4 c =
     c.four_at.ensures ∙ sym (bits-four c.args.src.now c.args.at (λ i. omega (arith, c.type_inv.src i)))
 
-pub returns : goal.returns
-returns c =
+pub returns-else-src-at-ge4 : goal.returns-else-src-at-ge4
+returns-else-src-at-ge4 c =
     c.last_four.ensures ∙ sym (bits-four c.args.src.now c.args.at (λ i. omega (arith, c.type_inv.src i)))

@@ -1,26 +1,20 @@
 -- `clipping::over` meets its contract. Assumes nothing.
 use mathlib.Core.Path.{ap, ◌∙◌}
 use native.Mathlib.Omega.{arith}
-use Prim.Native.Nat.{ℕ, ◌<◌}
 use lib.IntN.{pos, ◌+ℤ◌}
-use mir.Syntax.{w32}
-use mir.Val.{to_z}
-use mir.Facts.{to_z_pos}
 use Rattle.whole.proofs.Held.{R32}
-use Rattle.whole.proofs.Chain.{Is, widened, plus, held, fits32}
+use Rattle.whole.proofs.Chain.{Is, widened, plus, held}
 use Rattle.clipping.specs.Clipped.{outside, over}
 use Rattle.clipping.proofs.over.Goals as goal
+use Rattle.clipping.proofs.over.Goals.{After-from-2}
 
--- the pixel and the sum, as the machine has them
-pixel : (p : ℕ) → p < 256 → Is 255 (to_z w32 p) (pos p)
-pixel p h = record { is = to_z_pos w32 (omega arith); small = omega arith }
+-- the pixel, as the machine has it
+pixel : (c : After-from-2) → Is 255 (R32 c.from.result) (pos c.args.p)
+pixel c = held (record { is = c.from.ensures; small = omega arith }) tt
 
-total : (c : goal.After-widen) → Is 33023 (to_z w32 c.args.p +ℤ R32 c.widen.result) (pos c.args.p +ℤ c.args.r)
-total c = plus (pixel c.args.p c.ranges.p.fits) (widened c.ranges.r c.widen.ensures)
+total : (c : After-from-2) → Is 33023 (R32 c.from.result +ℤ R32 c.from-2.result) (pos c.args.p +ℤ c.args.r)
+total c = plus (pixel c) (widened c.ranges.r c.from-2.ensures)
 
 pub returns : goal.returns
 unfolding over
 returns c = c.outside.ensures ∙ ap outside (held (total c.before) tt).is
-
-pub overflow_add-p : goal.overflow_add-p
-overflow_add-p c = fits32 (total c) tt

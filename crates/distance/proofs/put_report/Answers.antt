@@ -10,4 +10,4 @@ unfolding put_report
 returns c =
     let k = c.args.k in
     let e : 3 * k + 3 - 3 * k ≡ 3 = omega arith in
-    rw (e, c.put.ensures)
+    rw (e, c.copy_from_slice.ensures.after, c.report.ensures)

@@ -1,11 +1,6 @@
 use native.Mathlib.Omega.{arith}
-use Rattle.rfc6386.specs.LoopFilter.{limits_of}
 use Rattle.filter_limits.proofs.Small.{interior-small}
 use Rattle.filter_limits.proofs.limits.Goals as goal
 
 pub overflow_add-result : goal.overflow_add-result
 overflow_add-result c = omega (arith, c.interior_limit-interior.ensures, interior-small c.args.level c.args.sharp c.requires.1)
-
-pub returns : goal.returns
-unfolding limits_of
-returns c = cc

@@ -1,13 +1,20 @@
+-- `filtered_still::still_filtered` meets its contract. Assumes nothing.
+use Rattle.std.proofs.lemmas.Result.{err_from_is_err_and}
 use Rattle.filtered_still.proofs.Two.{refused-is, done-is}
 use Rattle.filtered_still.proofs.still_filtered.Goals as goal
 
-pub returns-then-drawn-ne-DONE : goal.returns-then-drawn-ne-DONE
-returns-then-drawn-ne-DONE c =
+pub returns-in_err-clipped : goal.returns-in_err-clipped
+returns-in_err-clipped c =
     let a = c.args in
-    refused-is a.cols a.rows a.kind a.sharpness a.levels.now a.inner.now _ c.still_alone-drawn.result _ _ _ c.still_alone-drawn.ensures c.if-drawn-ne-DONE.true
+    let p = err_from_is_err_and c.from_residual.result c.from_residual.ensures.1 in
+    rw (p.1, p.2) (refused-is a.cols a.rows a.kind a.sharpness a.levels.now a.inner.now _ _ _ _ _ c.in_err-clipped.ensures)
 
-pub returns : goal.returns
-returns c =
+pub returns-in-Ok : goal.returns-in-Ok
+returns-in-Ok c =
     let a = c.args in
-    done-is a.cols a.rows a.kind a.sharpness a.levels.now a.inner.now _ c.still_alone-drawn.result _ _ _ c.still_alone-drawn.ensures
-    c.filter_levels-number.result _ _ _ c.if-drawn-ne-DONE.false c.filter_levels-number.ensures
+    done-is a.cols a.rows a.kind a.sharpness a.levels.now a.inner.now _ _ _ _ _ _ _ _ _ c.in_ok-clipped.ensures c.in-Ok.ensures
+
+pub returns-in-Err : goal.returns-in-Err
+returns-in-Err c =
+    let a = c.args in
+    done-is a.cols a.rows a.kind a.sharpness a.levels.now a.inner.now _ _ _ _ _ _ _ _ _ c.in_ok-clipped.ensures c.in-Err.ensures

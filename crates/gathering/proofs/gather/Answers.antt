@@ -6,27 +6,25 @@ use Rattle.picture_limits.proofs.Accepted.{place-says, sizes-say}
 use Rattle.picture_limits.proofs.Bounds.{placed}
 use Rattle.gathering.proofs.gather.Goals as goal
 
-pub beside-neighbors-requires : goal.beside-neighbors-requires
-beside-neighbors-requires c =
-    let a = place-says _ _ _ _ (sym c.place_ok-place.ensures ∙ c.if-place.true) in
-    let b = sizes-say _ _ _ _ _ (sym c.sizes_ok-sizes.ensures ∙ c.if-sizes.true) in (
+pub returns-then-not-place_ok : goal.returns-then-not-place_ok
+unfolding gathered
+returns-then-not-place_ok c = rw (sym c.place_ok.ensures ∙ c.if-not-place_ok.true)
+
+pub returns-then-not-sizes_ok : goal.returns-then-not-sizes_ok
+unfolding gathered
+returns-then-not-sizes_ok c = rw (sym c.place_ok.ensures ∙ c.if-not-place_ok.false, sym c.sizes_ok.ensures ∙ c.if-not-sizes_ok.true)
+
+pub beside-requires : goal.beside-requires
+beside-requires c =
+    let a = place-says _ _ _ _ (sym c.place_ok.ensures ∙ c.if-not-place_ok.false) in
+    let b = sizes-say _ _ _ _ _ (sym c.sizes_ok.ensures ∙ c.if-not-sizes_ok.false) in (
       placed 16 _ _ _ _ _ (omega arith) a.column a.row b.y-plane,
       placed 8 _ _ _ _ _ (omega arith) a.column a.row b.u-plane,
       placed 8 _ _ _ _ _ (omega arith) a.column a.row b.v-plane,
       a.width,
     )
 
-pub returns-then-sizes : goal.returns-then-sizes
-unfolding gathered
-returns-then-sizes c =
-    rw (sym c.place_ok-place.ensures ∙ c.if-place.true, sym c.sizes_ok-sizes.ensures ∙ c.if-sizes.true, c.beside-neighbors.ensures)
-
-pub returns-then-place : goal.returns-then-place
-unfolding gathered
-returns-then-place c =
-    rw (sym c.place_ok-place.ensures ∙ c.if-place.true, sym c.sizes_ok-sizes.ensures ∙ c.if-sizes.false, c.refusal.ensures)
-
 pub returns : goal.returns
 unfolding gathered
 returns c =
-    rw (sym c.place_ok-place.ensures ∙ c.if-place.false, c.refusal-2.ensures)
+    rw (sym c.place_ok.ensures ∙ c.if-not-place_ok.false, sym c.sizes_ok.ensures ∙ c.if-not-sizes_ok.false, c.beside.ensures)

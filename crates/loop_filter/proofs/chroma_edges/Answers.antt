@@ -8,7 +8,7 @@ pub returns : goal.returns
 returns c =
     let a = c.args in
     let e =
-    c.level_chroma.ensures
-    ∙ chroma-is a.rule a.cols a.r a.c a.inner a.u.now a.v.now c.upright_chroma.new.u c.upright_chroma.new.v c.requires.0 c.requires.1
-    c.upright_chroma.auto.u c.upright_chroma.auto.v c.upright_chroma.ensures in
+    c.filter_chroma-2.ensures
+    ∙ chroma-is a.rule a.cols a.r a.c a.inner a.u.now a.v.now c.filter_chroma.new.u c.filter_chroma.new.v c.requires.0 c.requires.1
+    c.filter_chroma.auto.u c.filter_chroma.auto.v c.filter_chroma.ensures in
     (ap (λ (w : List ℕ × List ℕ). w.0) e, ap (λ (w : List ℕ × List ℕ). w.1) e)

@@ -1,8 +1,4 @@
-use native.Mathlib.Omega.{arith}
-use mathlib.Core.Path.{ap, ◌∙◌}
-use Prim.Native.Nat.{ℕ}
-use mathlib.Core.List.{List}
-use lib.ListN.{length}
+use Rattle.std.proofs.Common.{ℕ, List, length, ap, ◌∙◌, arith}
 use borrow.Author.Tests.{eq-eqb, ne_eqb}
 use Rattle.bool_decoder.specs.declared.state.BoolState.{BoolState}
 use Rattle.partition.specs.Answers.{start_answer, numbers_of}
@@ -16,4 +12,4 @@ pub returns : goal.returns
 unfolding start_answer
 returns c =
     rw (eq-eqb (length c.args.state.now) 4 (omega (arith, c.if-state-ne4.false)))
-    (ap (λ (l : List ℕ). (0, l)) c.put_state.ensures ∙ ap (λ (s : BoolState). (0, numbers_of s)) c.begin-s.ensures)
+    (ap (λ (l : List ℕ). (0, l)) (c.copy_from_slice.ensures.after ∙ c.numbers_of.ensures) ∙ ap (λ (s : BoolState). (0, numbers_of s)) c.begin-s.ensures)

@@ -1,16 +1,23 @@
-use mathlib.Core.Path.{refl, ◌∙◌}
+use Rattle.std.proofs.Common.{arith}
 use Rattle.partition.specs.Answers.{flagged_answer}
-use Rattle.partition.proofs.Puts.{put_full, same_answer}
+use Rattle.partition.proofs.Nine.{flags-known}
+use Rattle.partition.proofs.Told.{put-told}
 use Rattle.partition.proofs.flagged.Goals as goal
 
-pub returns-then-known_flags : goal.returns-then-known_flags
+pub returns-then-not-y2-all_flags : goal.returns-then-not-y2-all_flags
 unfolding flagged_answer
-returns-then-known_flags c =
-    rw (← c.known_flags.ensures, c.if-known_flags.true, ← c.flags_of-a.ensures, ← c.flags_of-l.ensures, ← c.state_of-s.ensures, ← c.decode_macroblock-m.ensures)
-    c.put_all.ensures
+returns-then-not-y2-all_flags c = rw (← flags-known c.args.above c.all_flags.result (omega (arith, c.well_formed)) c.all_flags.ensures, ← flags-known c.args.left c.all_flags-2.result (omega (arith, c.well_formed)) c.all_flags-2.ensures, c.if-not-y2-all_flags.true)
 
-pub returns-else-known_flags : goal.returns-else-known_flags
+pub returns : goal.returns
 unfolding flagged_answer
-returns-else-known_flags c =
-    rw (← c.known_flags.ensures, c.if-known_flags.false)
-    (same_answer refl refl refl refl (c.put_coeffs.ensures ∙ put_full 400 _ _ c.requires.3 ∙ c.no_coefficients.ensures))
+returns c =
+    rw (
+      ← flags-known c.args.above c.all_flags.result (omega (arith, c.well_formed)) c.all_flags.ensures,
+      ← flags-known c.args.left c.all_flags-2.result (omega (arith, c.well_formed)) c.all_flags-2.ensures,
+      c.if-not-y2-all_flags.false,
+      ← c.flags_of.ensures,
+      ← c.flags_of-2.ensures,
+      ← c.state_of.ensures,
+      ← c.decode_macroblock.ensures,
+    )
+    (put-told c.flags_of.result c.flags_of-2.result c.state_of.result c.decode_macroblock.result c.args.above c.args.left c.args.state)

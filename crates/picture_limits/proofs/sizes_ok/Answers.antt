@@ -1,13 +1,14 @@
 -- `picture_limits::sizes_ok` meets its contract: y counts the macroblocks. Assumes nothing.
-use mathlib.Core.Path.{refl, sym, ◌∙◌}
-use Rattle.picture_limits.proofs.Accepted.{sizes-luma, sizes-other, sizes-last}
+use Rattle.std.proofs.Common.{arith}
+use Rattle.std.proofs.lemmas.Bool.Decides.{nat_tests}
+use Rattle.rfc6386.specs.Picture.{sizes_ok}
 use Rattle.picture_limits.proofs.sizes_ok.Goals as goal
-
-pub returns-then-not-luma_ok : goal.returns-then-not-luma_ok
-returns-then-not-luma_ok c = sym (sizes-luma _ _ _ _ _ (sym c.luma_ok.ensures ∙ c.if-not-luma_ok.true))
+use Rattle.picture_limits.proofs.sizes_ok.Goals.{then-luma_ok, else-luma_ok}
 
 pub returns-then-u-n : goal.returns-then-u-n
-returns-then-u-n c = sym (sizes-other _ _ _ _ _ (sym c.luma_ok.ensures ∙ c.if-not-luma_ok.false) _ refl c.if-u-n.true)
+unfolding sizes_ok
+returns-then-u-n c = elim c.if-luma_ok.branch [ then-luma_ok w ↦ grind (arith, nat_tests) | else-luma_ok w ↦ grind (arith, nat_tests) ]
 
-pub returns : goal.returns
-returns c = sizes-last _ _ _ _ _ (sym c.luma_ok.ensures ∙ c.if-not-luma_ok.false) _ refl c.if-u-n.false
+pub returns-else-u-n : goal.returns-else-u-n
+unfolding sizes_ok
+returns-else-u-n c = elim c.if-luma_ok.branch [ then-luma_ok w ↦ grind (arith, nat_tests) | else-luma_ok w ↦ grind (arith, nat_tests) ]

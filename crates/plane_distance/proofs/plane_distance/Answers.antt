@@ -5,7 +5,7 @@ use Rattle.plane_distance.proofs.plane_distance.Goals as goal
 
 pub returns-then-not-comparable : goal.returns-then-not-comparable
 unfolding plane_distance
-returns-then-not-comparable c = rw (sym c.comparable.ensures ∙ c.if-not-comparable.true) c.nothing.ensures
+returns-then-not-comparable c = rw (sym c.comparable.ensures ∙ c.if-not-comparable.true) c.none.ensures
 
 pub over_all-requires : goal.over_all-requires
 over_all-requires c = sym c.comparable.ensures ∙ c.if-not-comparable.false

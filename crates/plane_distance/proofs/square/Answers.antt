@@ -1,16 +1,15 @@
 -- `plane_distance::square` meets its contract. Assumes nothing.
+use Prim.Native.Nat.{ℕ, ◌*◌, ◌≤◌}
+use mathlib.Core.Path.{refl}
 use native.Mathlib.Nat.{mul-le-mul}
 use native.Mathlib.Omega.{arith}
-use Prim.Native.Nat.{◌≤◌}
-use mathlib.Core.Path.{refl}
 use Rattle.plane_distance.proofs.square.Goals as goal
-use Rattle.plane_distance.proofs.square.Goals.{Start}
 
-byte : (c : Start) → c.args.g ≤ 255
-byte c = omega arith
+small : (g : ℕ) → g ≤ 255 → g * g ≤ 65025
+small g h = mul-le-mul h h
 
 pub overflow_mul-result : goal.overflow_mul-result
-overflow_mul-result c = omega (arith, mul-le-mul (byte c) (byte c))
+overflow_mul-result c = rw (c.from.ensures, c.from-2.ensures) (omega (arith, small c.args.g (omega arith)))
 
 pub returns : goal.returns
-returns c = (refl, omega (arith, mul-le-mul (byte c) (byte c)))
+returns c = rw (c.from.ensures, c.from-2.ensures) (refl, small c.args.g (omega arith))

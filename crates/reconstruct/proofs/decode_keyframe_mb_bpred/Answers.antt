@@ -1,5 +1,5 @@
 -- `reconstruct::decode_keyframe_mb_bpred` meets its contract: by its two tests. Assumes nothing.
-use mathlib.Core.Path.{◌≡◌, refl, ◌∙◌}
+use mathlib.Core.Path.{◌≡◌, refl}
 use mathlib.Core.Bool.{Bool, false}
 use mathlib.Core.List.{List}
 use borrow.Author.Tests.{eq-eqb, ne_eqb}
@@ -18,12 +18,12 @@ unfolding walk_b
 none_first modes there m n coeffs e = rw e refl
 
 pub returns-then-not-sub_modes_there : goal.returns-then-not-sub_modes_there
-returns-then-not-sub_modes_there c = c.refused.ensures ∙ none_first _ _ _ _ _ (c.if-not-sub_modes_there.true)
+returns-then-not-sub_modes_there c = none_first _ _ _ _ _ (c.if-not-sub_modes_there.true)
 
 pub returns-then-coeffs-ne384 : goal.returns-then-coeffs-ne384
 unfolding walk_b
 returns-then-coeffs-ne384 c =
-    rw (c.if-not-sub_modes_there.false, ne_eqb _ _ c.if-coeffs-ne384.true) c.refused-then-coeffs-ne384.ensures
+    rw (c.if-not-sub_modes_there.false, ne_eqb _ _ c.if-coeffs-ne384.true) refl
 
 pub returns : goal.returns
 unfolding walk_b

@@ -17,11 +17,11 @@ unfolding non_b
 b-first m n coeffs e = rw e refl
 
 pub returns-then-is_b : goal.returns-then-is_b
-returns-then-is_b c = c.refused.ensures ∙ b-first _ _ _ (sym c.is_b.ensures ∙ c.if-is_b.true)
+returns-then-is_b c = b-first _ _ _ (sym c.is_b.ensures ∙ c.if-is_b.true)
 
 pub returns-then-coeffs-ne400 : goal.returns-then-coeffs-ne400
 unfolding non_b
-returns-then-coeffs-ne400 c = rw (sym c.is_b.ensures ∙ c.if-is_b.false, ne_eqb _ _ c.if-coeffs-ne400.true) c.refused-then-coeffs-ne400.ensures
+returns-then-coeffs-ne400 c = rw (sym c.is_b.ensures ∙ c.if-is_b.false, ne_eqb _ _ c.if-coeffs-ne400.true) refl
 
 pub returns : goal.returns
 unfolding non_b

@@ -1,29 +1,15 @@
 -- `reconstruct::parts` meets its contract. Assumes nothing.
-use Prim.Native.Nat.{◌≤◌}
-use mathlib.Core.Path.{refl}
+use mathlib.Core.Path.{refl, ◌∙◌}
 use native.Mathlib.Omega.{arith}
-use Rattle.clipping.proofs.Bounds.{y-parts-≤, uv-≤}
-use Rattle.planes.specs.Planes.{uv_drawn}
+use Rattle.clipping.proofs.Bounds.{y-parts-≤}
 use Rattle.sub_blocks.specs.Parts.{parts_drawn}
-use Rattle.reconstruct.specs.Answers.{parts_of}
+use Rattle.reconstruct.specs.Answers.{macroblock_of, parts_of}
 use Rattle.reconstruct.proofs.parts.Goals as goal
 
+pub with_chroma-requires : goal.with_chroma-requires
+unfolding parts_drawn
+with_chroma-requires c = (rw c.luma_parts-luma.ensures (y-parts-≤ _ _ _ _), omega arith)
+
 pub returns : goal.returns
-unfolding parts_of parts_drawn uv_drawn
-returns c =
-    rw (c.uv_plane-chroma_v.ensures, c.uv_plane-chroma_u.ensures, c.luma_parts-luma.ensures) refl
-
-pub overflow_add-result : goal.overflow_add-result
-unfolding parts_drawn uv_drawn
-overflow_add-result c =
-    let a : c.luma_parts-luma.result.clipped ≤ 256 = rw c.luma_parts-luma.ensures (y-parts-≤ _ _ _ _) in
-    let b : c.uv_plane-chroma_u.result.clipped ≤ 64 = rw c.uv_plane-chroma_u.ensures (uv-≤ _ _ _ _ _) in
-    omega (arith, a, b)
-
-pub overflow_add-result-2 : goal.overflow_add-result-2
-unfolding parts_drawn uv_drawn
-overflow_add-result-2 c =
-    let a : c.luma_parts-luma.result.clipped ≤ 256 = rw c.luma_parts-luma.ensures (y-parts-≤ _ _ _ _) in
-    let b : c.uv_plane-chroma_u.result.clipped ≤ 64 = rw c.uv_plane-chroma_u.ensures (uv-≤ _ _ _ _ _) in
-    let d : c.uv_plane-chroma_v.result.clipped ≤ 64 = rw c.uv_plane-chroma_v.ensures (uv-≤ _ _ _ _ _) in
-    omega (arith, a, b, d)
+unfolding macroblock_of parts_of parts_drawn
+returns c = c.with_chroma.ensures ∙ rw c.luma_parts-luma.ensures refl

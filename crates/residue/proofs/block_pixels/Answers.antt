@@ -1,22 +1,18 @@
 -- `residue::block_pixels` meets its contract. Assumes nothing.
-use mathlib.Core.Path.{◌≡◌, refl}
-use native.Mathlib.Omega.{arith}
-use lib.ListN.{replicate}
-use Rattle.lists.proofs.Table.{table_none}
-use Rattle.residue.proofs.Sums.{sum-turn, sum_done}
+use mathlib.Core.Path.{◌≡◌}
+use mathlib.Core.List.{List}
+use Prim.Native.Nat.{ℕ}
+use borrow.Author.Rules.{rules}
+use denote.Bor.{Bor}
+use lib.IntN.{ℤ}
+use Rattle.lists.proofs.FromFn.{from-fn-table}
+use Rattle.rfc6386.specs.Residue.{summed}
+use Rattle.residue.proofs.Sums.{sum_of}
 use Rattle.residue.proofs.block_pixels.Goals as goal
 
-pub loop-i-init : goal.loop-i-init
-loop-i-init c = (omega arith, table_none _ _)
-
-pub loop-i-preserved : goal.loop-i-preserved
-loop-i-preserved c =
-    let a = c.args in
-    (omega arith, sum-turn a.prediction a.residue c.loop-i.i _ _ c.loop-i.out c.loop-i.invariant.1 c.sum-arg-1.given c.sum.ensures (omega arith))
-
 pub returns : goal.returns
+unfolding summed
 returns c =
-    let i = c.loop-i in
     let a = c.args in
-    let full : i.i ≡ 16 = omega arith in
-    sum_done a.prediction a.residue 16 (replicate 16 0) i.out (rw full at i.invariant.1) refl
+    from-fn-table {F = Bor (List ℕ) × Bor (List ℤ)} _ (λ p. (p.0.now ≡ a.prediction) × (p.1.now ≡ a.residue)) 16 (sum_of a.prediction a.residue)
+    (λ p q i y e h k. (search rules, search rules)) c.from_fn.result _ 0 (search rules) c.from_fn.ensures.items

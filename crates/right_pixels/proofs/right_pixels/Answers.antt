@@ -4,21 +4,19 @@ use Rattle.right_pixels.specs.Answers.{right_pixels}
 use Rattle.right_pixels.proofs.Accepted.{row-placed}
 use Rattle.right_pixels.proofs.right_pixels.Goals as goal
 
-pub last_above-p-requires : goal.last_above-p-requires
-last_above-p-requires c =
-    row-placed _ _ _ _ (sym c.row_ok-place.ensures ∙ c.if-place.true) (sym c.luma_ok-size.ensures ∙ c.if-size.true)
-
-pub returns-then-size : goal.returns-then-size
+pub returns-then-not-row_ok : goal.returns-then-not-row_ok
 unfolding right_pixels
-returns-then-size c =
-    rw (sym c.row_ok-place.ensures ∙ c.if-place.true, sym c.luma_ok-size.ensures ∙ c.if-size.true, c.last_above-p.ensures)
+returns-then-not-row_ok c = rw (sym c.row_ok.ensures ∙ c.if-not-row_ok.true)
 
-pub returns-then-place : goal.returns-then-place
+pub returns-then-not-luma_ok : goal.returns-then-not-luma_ok
 unfolding right_pixels
-returns-then-place c =
-    rw (sym c.row_ok-place.ensures ∙ c.if-place.true, sym c.luma_ok-size.ensures ∙ c.if-size.false, c.refusal.ensures)
+returns-then-not-luma_ok c = rw (sym c.row_ok.ensures ∙ c.if-not-row_ok.false, sym c.luma_ok.ensures ∙ c.if-not-luma_ok.true)
+
+pub last_above-requires : goal.last_above-requires
+last_above-requires c =
+    row-placed _ _ _ _ (sym c.row_ok.ensures ∙ c.if-not-row_ok.false) (sym c.luma_ok.ensures ∙ c.if-not-luma_ok.false)
 
 pub returns : goal.returns
 unfolding right_pixels
 returns c =
-    rw (sym c.row_ok-place.ensures ∙ c.if-place.false, c.refusal-2.ensures)
+    rw (sym c.row_ok.ensures ∙ c.if-not-row_ok.false, sym c.luma_ok.ensures ∙ c.if-not-luma_ok.false, c.last_above.ensures)

@@ -19,8 +19,8 @@ overflow_mul-at c = omega (arith, room c)
 pub overflow_add-at : goal.overflow_add-at
 overflow_add-at c = omega (arith, room c)
 
-pub overflow_add-end : goal.overflow_add-end
-overflow_add-end c = omega (arith, room c)
+pub overflow_add-result : goal.overflow_add-result
+overflow_add-result c = omega (arith, room c)
 
 pub slice_bounds-result-end : goal.slice_bounds-result-end
 slice_bounds-result-end c = omega (arith, room c)

@@ -6,10 +6,6 @@ use Rattle.shelf_items.specs.Steps.{planned, begun}
 use Rattle.shelf_items.proofs.Turns.{fits}
 use Rattle.shelf_items.proofs.begin.Goals as goal
 
-pub returns-then-not-lengths_fit : goal.returns-then-not-lengths_fit
-unfolding planned begun
-returns-then-not-lengths_fit c = rw (sym c.lengths_fit.ensures ∙ c.if-not-lengths_fit.true) (refl, refl)
-
 pub returns : goal.returns
 unfolding planned begun
 returns c =

@@ -1,33 +1,22 @@
 -- `shelf_items::put_item` meets its contract. Assumes nothing.
-use mathlib.Core.Path.{◌∙◌, refl}
-use native.Mathlib.Omega.{arith}
-use Rattle.slices.proofs.Copied.{put_fit}
+use mathlib.Core.Path.{refl}
+use Rattle.slices.proofs.Copied.{one_set}
 use Rattle.slices.proofs.Parts.{part-put}
+use Rattle.reconstruct.specs.Answers.{refusal}
 use Rattle.drawing.specs.Drawn.{planes_of}
+use Rattle.shelf_items.proofs.Items.{part-cleared, one-kept}
 use Rattle.shelf_items.proofs.put_item.Goals as goal
 
-pub overflow_cast-replies : goal.overflow_cast-replies
-overflow_cast-replies c = let h = c.requires.0 in omega (arith, h)
-
-pub bounds-replies-i : goal.bounds-replies-i
-bounds-replies-i c = let h = c.requires.2.reply in omega (arith, h)
-
-pub bounds-clipped-0 : goal.bounds-clipped-0
-bounds-clipped-0 c =
-    let h = c.requires.2.place in omega (arith, h)
-
-pub overflow_add-before : goal.overflow_add-before
-overflow_add-before c =
-    let h = c.requires.1 in
-    let r = c.requires.2 in
-    omega (arith, h, r.counted, r.planes, c.well_formed)
-
-pub returns : goal.returns
+pub returns-in-Ok : goal.returns-in-Ok
 unfolding planes_of
-returns c =
-    let a = c.args in
-    let r = c.requires.2 in (
-      part-put 384 _ _ _ _ r.planes c.put_planes.ensures,
-      refl,
-      c.put_count.ensures ∙ put_fit 1 _ _ r.place,
-    )
+returns-in-Ok c =
+    let r = c.requires.1 in
+    rw c.in-Ok.is
+    (part-put 384 _ _ _ _ r.planes c.put_planes.ensures, refl, rw c.from.ensures (one_set _ _ r.place))
+
+pub returns-in-Err : goal.returns-in-Err
+unfolding planes_of refusal
+returns-in-Err c =
+    let r = c.requires.1 in
+    rw c.in-Err.is
+    (part-put 384 _ _ _ _ r.planes (part-cleared 384 _ _ _ r.planes c.clear.ensures), rw c.number.ensures refl, one-kept _ r.place)

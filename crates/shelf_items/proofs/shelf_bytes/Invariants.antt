@@ -6,7 +6,7 @@ use Rattle.shelf_items.proofs.Turns.{out_after, replies_after, count_after}
 use Rattle.shelf_items.proofs.shelf_bytes.Given as goal
 
 abbrev pub invariant-loop-i : goal.invariant-loop-i
-invariant-loop-i l = (l.i ≤ l.i-end)
+invariant-loop-i l = (l.i ≤ l.n)
     × (l.out ≡ out_after (bytes_at l.modes l.records l.sub_modes l.coeffs) l.i l.initial.out)
     × (l.replies ≡ replies_after (bytes_at l.modes l.records l.sub_modes l.coeffs) l.i l.initial.replies)
     × (l.clipped ≡ count_after (bytes_at l.modes l.records l.sub_modes l.coeffs) l.i l.initial.clipped)

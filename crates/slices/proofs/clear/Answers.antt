@@ -1,22 +1,7 @@
 -- `slices::clear` meets its contract. Assumes nothing.
-use mathlib.Core.Path.{◌≡◌, refl, ◌∙◌}
-use native.Mathlib.Omega.{arith}
-use lib.ListN.{length, length-set}
-use Rattle.lists.proofs.Table.{table_none, table-turn, table_done, table_same}
 use Rattle.slices.specs.Copies.{cleared}
 use Rattle.slices.proofs.clear.Goals as goal
 
-pub loop-i-init : goal.loop-i-init
-loop-i-init c = (omega arith, (table_none _ _, refl))
-
-pub loop-i-preserved : goal.loop-i-preserved
-loop-i-preserved c =
-    let l = c.loop-i in
-    (omega arith, (table-turn _ _ _ _ _ l.invariant.1.0 refl (omega arith), simp length-set l.invariant.1.1))
-
 pub returns : goal.returns
 unfolding cleared
-returns c =
-    let l = c.loop-i in
-    let e : l.i ≡ length c.args.to.now = omega arith in
-    rw (← e) (table_done _ _ _ _ l.invariant.1.0 (omega arith) ∙ table_same 0 _)
+returns c = c.fill.ensures.after (λ y e. e)

@@ -6,8 +6,8 @@ use Rattle.slices.proofs.copy.Goals as goal
 
 pub returns-then-to-from : goal.returns-then-to-from
 unfolding copied
-returns-then-to-from c = rw (eq-eqb _ _ c.if-to-from.true) c.copy_all.ensures
+returns-then-to-from g c = rw (eq-eqb _ _ c.if-to-from.true) c.copy_from_slice.ensures.after
 
 pub returns-else-to-from : goal.returns-else-to-from
 unfolding copied
-returns-else-to-from c = rw (ne_eqb _ _ c.if-to-from.false) refl
+returns-else-to-from g c = rw (ne_eqb _ _ c.if-to-from.false) refl

@@ -15,4 +15,4 @@ pub returns : goal.returns
 unfolding right_at
 returns c =
     let a = c.args in
-    rw (ne_eqb _ _ c.if-row-eq0.false) (c.four.ensures ∙ part-whole 0 4 (4 * (a.row - 1)) a.right.now (omega arith))
+    rw (ne_eqb _ _ c.if-row-eq0.false) (c.array.ensures ∙ part-whole 0 4 (4 * (a.row - 1)) a.right.now (omega arith))

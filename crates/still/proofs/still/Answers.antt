@@ -9,17 +9,17 @@ use Rattle.still.proofs.still.Goals as goal
 
 pub returns-then-not-size_ok : goal.returns-then-not-size_ok
 unfolding still_answer still_clipped
-returns-then-not-size_ok c = rw (sym c.size_ok.ensures ∙ c.if-not-size_ok.true, c.refused.ensures) refl
+returns-then-not-size_ok c = rw (c.into.ensures, sym c.size_ok.ensures ∙ c.if-not-size_ok.true) refl
 
 pub lengths_ok-fit-requires : goal.lengths_ok-fit-requires
-lengths_ok-fit-requires c = sym c.size_ok.ensures ∙ c.if-not-size_ok.false
+lengths_ok-fit-requires c = let p = size-says _ _ (sym c.size_ok.ensures ∙ c.if-not-size_ok.false) in (p.width, p.height)
 
 pub returns-then-not-fit : goal.returns-then-not-fit
 unfolding still_answer still_clipped
 returns-then-not-fit c =
     let size = sym c.size_ok.ensures ∙ c.if-not-size_ok.false in
     let fit = sym c.lengths_ok-fit.ensures ∙ c.if-not-fit.true in
-    rw (size, fit, c.refused-then-not-fit.ensures) refl
+    rw (c.into-then-not-fit.ensures, size, fit) refl
 
 pub overflow_sub-rows : goal.overflow_sub-rows
 overflow_sub-rows c =
@@ -36,7 +36,7 @@ unfolding still_answer still_clipped
 returns-then-right-rows c =
     let size = sym c.size_ok.ensures ∙ c.if-not-size_ok.false in
     let fit = sym c.lengths_ok-fit.ensures ∙ c.if-not-fit.false in
-    rw (size, fit, ne_eqb _ _ c.if-right-rows.true, c.refused-then-right-rows.ensures) refl
+    rw (c.into-then-right-rows.ensures, size, fit, ne_eqb _ _ c.if-right-rows.true) refl
 
 pub draw_all-requires : goal.draw_all-requires
 draw_all-requires c =

@@ -1,15 +1,11 @@
-use mathlib.Core.Path.{refl}
-use native.Mathlib.Omega.{arith}
+use Rattle.std.proofs.Common.{refl, arith}
 use Rattle.token_probs.proofs.Zeros.{zero_more, zero-done}
 use Rattle.token_probs.proofs.no_zero.Goals as goal
 
-pub loop-i-preserved : goal.loop-i-preserved
-loop-i-preserved c =
-    let l = c.loop-i in
-    (omega arith, zero_more _ l.i l.all c.both-all.result c.loop-i-test.true c.both-all.ensures l.invariant.1)
+pub loop-p-preserved : goal.loop-p-preserved
+loop-p-preserved c =
+    let l = c.loop-p in
+    zero_more _ l.p-index l.all _ c.loop-p-test.true refl l.invariant
 
 pub returns : goal.returns
-returns c = let l = c.loop-i in zero-done _ l.i l.all l.invariant.0 c.loop-i-test.false l.invariant.1
-
-pub loop-i-init : goal.loop-i-init
-loop-i-init c = (omega arith, refl)
+returns c = let l = c.loop-p in zero-done _ l.p-index l.all (omega arith) c.loop-p-test.false l.invariant

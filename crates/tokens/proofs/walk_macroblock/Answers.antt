@@ -1,21 +1,29 @@
-use native.Mathlib.Omega.{arith}
-use lib.ListN.{length}
+use Rattle.std.proofs.Common.{◌≡◌, Some, None, length, ap, arith}
+use Rattle.std.proofs.lemmas.Result.{err_from_is_err_and}
 use borrow.Author.Tests.{eq-eqb, ne_eqb}
+use Rattle.macroblock.specs.Reply.{reply_of}
 use Rattle.tokens.specs.Answers.{walked}
 use Rattle.tokens.proofs.walk_macroblock.Goals as goal
 
-pub returns-then-probs-ne1056 : goal.returns-then-probs-ne1056
+pub returns-in_err-probs : goal.returns-in_err-probs
 unfolding walked
-returns-then-probs-ne1056 c = rw (ne_eqb _ 1056 c.if-probs-ne1056.true) c.refusal.ensures
-
-pub answer-requires : goal.answer-requires
-unfolding walked
-answer-requires c = (omega (arith, c.if-probs-ne1056.false), rw c.stands.ensures at c.if-stands.true)
+returns-in_err-probs c =
+    let o : c.as_array.result ≡ None = grind arith in
+    let t = rw o at c.as_array.ensures.cases in
+    let p = err_from_is_err_and c.from_residual.result c.from_residual.ensures.1 in
+    let w = rw o at c.in_err-probs.ensures.value in
+    rw (p.1, p.2, ap reply_of w, ne_eqb (length c.args.probs.now) 1056 t)
 
 pub returns-then-stands : goal.returns-then-stands
 unfolding walked
-returns-then-stands c = rw (eq-eqb (length c.args.probs.now) 1056 (omega (arith, c.if-probs-ne1056.false)), ← c.stands.ensures, c.if-stands.true) c.answer.ensures
+returns-then-stands c =
+    let o : c.as_array.result ≡ Some c.in_ok-probs.probs = grind arith in
+    let t = rw o at c.as_array.ensures.cases in
+    rw (eq-eqb (length c.args.probs.now) 1056 t.long, ← c.stands.ensures, c.if-stands.true) (rw t.same at c.answer.ensures)
 
-pub returns : goal.returns
+pub returns-else-stands : goal.returns-else-stands
 unfolding walked
-returns c = rw (eq-eqb (length c.args.probs.now) 1056 (omega (arith, c.if-probs-ne1056.false)), ← c.stands.ensures, c.if-stands.false) c.refusal-2.ensures
+returns-else-stands c =
+    let o : c.as_array.result ≡ Some c.in_ok-probs.probs = grind arith in
+    let t = rw o at c.as_array.ensures.cases in
+    rw (eq-eqb (length c.args.probs.now) 1056 t.long, ← c.stands.ensures, c.if-stands.false)

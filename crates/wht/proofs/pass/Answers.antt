@@ -11,13 +11,13 @@ use Rattle.wht.proofs.pass.Goals as goal
 pub loop-c-init : goal.loop-c-init
 loop-c-init c = (omega arith, table_none _ _)
 
-pub line-f-requires : goal.line-f-requires
-line-f-requires c =
+pub line-requires : goal.line-requires
+line-requires c =
     column-small _ c.loop-c.c c.requires
 
 pub loop-c-preserved : goal.loop-c-preserved
 loop-c-preserved c =
-    (omega arith, pass-turn _ c.loop-c.c c.requires _ _ _ c.line-f.ensures (omega arith) refl c.loop-c.invariant.1)
+    (omega arith, pass-turn _ c.loop-c.c c.requires _ _ _ _ _ _ _ c.line.ensures refl refl refl refl (omega arith) refl c.loop-c.invariant.1)
 
 pub returns : goal.returns
 unfolding passed

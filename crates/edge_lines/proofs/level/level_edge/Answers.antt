@@ -11,6 +11,6 @@ returns c =
     let a = c.args in
     let r = c.requires in
     let size : length c.rows-b.result ≡ 128 = search rules in
-    c.copy_sixteens.ensures
+    c.copy_rows.ensures
     ∙ level-is a.kind a.l 0 16 a.at (a.at - 4 * a.stride) a.stride (omega arith) r.1 (omega arith) a.y.now c.rows-b.result _
     r.2 (rw c.rows-b.ensures (rows-broad (a.at - 4 * a.stride) a.stride a.y.now)) size c.lines_edge.ensures

@@ -1,11 +1,7 @@
 use native.Mathlib.Omega.{arith}
 use lib.ListN.{length-set}
 use Rattle.edge_lines.proofs.Zip.{zip_more}
-use borrow.Author.Rules.{rules}
 use Rattle.edge_lines.proofs.turn.shuffle.Goals as goal
-
-pub loop-k-init : goal.loop-k-init
-loop-k-init c = (omega arith, search rules, λ i p. omega arith)
 
 pub loop-k-preserved : goal.loop-k-preserved
 loop-k-preserved c =

@@ -4,4 +4,4 @@ use Rattle.gathering.proofs.record.beside.Goals as goal
 
 pub returns : goal.returns
 unfolding neighbors_of
-returns c = rw (c.chroma_edges-ev.ensures, c.chroma_edges-eu.ensures, c.luma_edges-ey.ensures)
+returns c = cc

@@ -1,14 +1,10 @@
 -- `gathering::record::chroma_edges` meets its contract. Assumes nothing.
-use mathlib.Core.Path.{refl}
 use native.Mathlib.Omega.{arith}
 use mathlib.Core.List.{[]}
 use Rattle.rfc6386.specs.Picture.{chroma_beside}
 use Rattle.picture_limits.proofs.Bounds.{bounds}
 use Rattle.gathering.proofs.Copied.{row-unread}
 use Rattle.gathering.proofs.record.chroma_edges.Goals as goal
-
-pub row_above-requires : goal.row_above-requires
-row_above-requires c = let b = c.requires in (b.0, refl, omega arith, omega arith, omega arith)
 
 pub returns : goal.returns
 unfolding chroma_beside

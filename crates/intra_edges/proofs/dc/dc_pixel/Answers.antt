@@ -6,21 +6,23 @@ use Rattle.rfc6386.specs.Edges.{dc_pixel}
 use Rattle.intra_edges.proofs.dc.dc_pixel.Goals as goal
 
 -- half of 2 n is n
-pub returns-then-left_there : goal.returns-then-left_there
+pub returns-in-true-true : goal.returns-in-true-true
 unfolding dc_pixel
-returns-then-left_there c =
-    let n = c.args.n in
+returns-in-true-true g c =
+    let n = g.row.N in
     let h : 2 * n / 2 ≡ n = omega arith in
-    rw (c.if-above_there.true, c.if-left_there.true, c.mean.ensures, c.edge_sum.ensures.0, c.edge_sum-then-left_there.ensures.0, h)
+    rw (c.in-true-true.is-0, c.in-true-true.is-1, c.mean.ensures, c.edge_sum.ensures.0, c.edge_sum-in-true-true.ensures.0, h)
 
-pub returns-then-above_there : goal.returns-then-above_there
+pub returns-in-true-false : goal.returns-in-true-false
 unfolding dc_pixel
-returns-then-above_there c = rw (c.if-above_there.true, c.if-left_there.false, c.mean-then-above_there.ensures, c.edge_sum-then-above_there.ensures.0)
+returns-in-true-false g c =
+    rw (c.in-true-false.is-0, c.in-true-false.is-1, c.mean-in-true-false.ensures, c.edge_sum-in-true-false.ensures.0)
 
-pub returns-then-left_there-2 : goal.returns-then-left_there-2
+pub returns-in-false-true : goal.returns-in-false-true
 unfolding dc_pixel
-returns-then-left_there-2 c = rw (c.if-above_there.false, c.if-left_there-2.true, c.mean-then-left_there-2.ensures, c.edge_sum-then-left_there-2.ensures.0)
+returns-in-false-true g c =
+    rw (c.in-false-true.is-0, c.in-false-true.is-1, c.mean-in-false-true.ensures, c.edge_sum-in-false-true.ensures.0)
 
-pub returns : goal.returns
+pub returns-in-false-false : goal.returns-in-false-false
 unfolding dc_pixel
-returns c = rw (c.if-above_there.false, c.if-left_there-2.false)
+returns-in-false-false g c = rw (c.in-false-false.is-0, c.in-false-false.is-1)

@@ -5,7 +5,7 @@ use native.Mathlib.Omega.{arith}
 use Rattle.lists.specs.Lists.{turns, total}
 use Rattle.lists.proofs.Turns.{turns-step}
 use Rattle.lists.proofs.Total.{total-turn}
-use Rattle.planes.proofs.Counts.{group-≤}
+use Rattle.planes.proofs.Counts.{run-≤}
 use Rattle.planes.proofs.Whole.{luma-coded}
 use Rattle.planes.proofs.luma.coded.Goals as goal
 
@@ -14,14 +14,14 @@ unfolding turns total
 loop-i-init c = (omega arith, refl, refl, omega arith)
 
 pub overflow_add-n : goal.overflow_add-n
-overflow_add-n c = let h : c.group_clipped-n.result ≤ 64 = rw c.group_clipped-n.ensures (group-≤ _ _ _) in omega (arith, h)
+overflow_add-n c = let h : c.run_clipped-n.result ≤ 64 = rw c.run_clipped-n.ensures (run-≤ _ _ _ _ _) in omega (arith, h)
 
 pub loop-i-preserved : goal.loop-i-preserved
 loop-i-preserved c =
-    let h : c.group_clipped-n.result ≤ 64 = rw c.group_clipped-n.ensures (group-≤ _ _ _) in (
+    let h : c.run_clipped-n.result ≤ 64 = rw c.run_clipped-n.ensures (run-≤ _ _ _ _ _) in (
       omega arith,
-      turns-step _ _ _ _ _ c.loop-i.invariant.1 (rw (c.add_group.ensures, c.residues_of-o.ensures)),
-      total-turn _ _ _ _ c.loop-i.invariant.2 (rw (c.group_clipped-n.ensures, c.residues_of-o.ensures)),
+      turns-step _ _ _ _ _ c.loop-i.invariant.1 (rw (c.add_run.ensures, c.residues_of-o.ensures)),
+      total-turn _ _ _ _ c.loop-i.invariant.2 (rw (c.run_clipped-n.ensures, c.residues_of-o.ensures)),
       omega (arith, h),
     )
 

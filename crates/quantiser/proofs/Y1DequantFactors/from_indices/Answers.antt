@@ -1,52 +1,27 @@
--- `quantiser::Y1DequantFactors::from_indices` meets its contract: in 64 bits the sum is exact, and the test decides. Assumes nothing.
-use mathlib.Core.Path.{◌≡◌, sym, ap, ◌∙◌}
-use mathlib.Core.Bool.{Bool}
-use lib.IntN.{ℤ, ◌+ℤ◌}
-use mir.Syntax.{w32, w64}
-use mir.Val.{to_z, of_z, SFits}
+-- `quantiser::Y1DequantFactors::from_indices` meets its contract. Assumes nothing.
+use mathlib.Core.Path.{◌≡◌, ap, ◌∙◌}
+use lib.IntN.{pos}
+use lib.ListN.{get_or-map}
+use borrow.Author.Rules.{rules}
 use mir.Facts.{to_z-of_z}
-use Rattle.whole.proofs.Held.{R32, held16, wider, twice, add64}
-use Rattle.rfc6386.specs.Quantiser.{dc_factor, ac_factor}
-use Rattle.quantiser.specs.Factors.{signed32}
-use Rattle.quantiser.proofs.Sum.{signed32-fits, y1-refused, y1-given}
+use Rattle.std.proofs.lemmas.Result.{err_from_is_err_and}
+use Rattle.whole.proofs.Held.{R32, held16}
+use Rattle.rfc6386.specs.Quantiser.{dc_lookup, ac_lookup, clamp_index, dc_factor, ac_factor}
+use Rattle.quantiser.proofs.Sum.{y1-refused, y1-given}
 use Rattle.quantiser.proofs.Y1DequantFactors.from_indices.Goals as goal
 
-abbrev R64 : ℤ → ℤ
-R64 z = to_z w64 (of_z w64 z)
-
-module _ {x y : ℤ} (f : SFits w32 x) (g : SFits w32 y) where
-  add-sum : SFits w64 (R64 (R32 x) +ℤ R64 (R32 y))
-  add-sum = rw (twice f, twice g) (add64 x y f g)
-
-  exact : R64 (R64 (R32 x) +ℤ R64 (R32 y)) ≡ x +ℤ y
-  exact = to_z-of_z add-sum ∙ rw (twice f, twice g)
-
-  -- what the test of the sum answered is what the sum's place says
-  tested : (b : Bool) → b ≡ signed32 (R64 (R64 (R32 x) +ℤ R64 (R32 y))) → signed32 (x +ℤ y) ≡ b
-  tested b e = ap signed32 (sym exact) ∙ sym e
-
-pub overflow_add-sum : goal.overflow_add-sum
-overflow_add-sum c = add-sum c.ranges.yac_qi c.ranges.ydc_delta
-
-pub overflow_cast-sum-then-signed32 : goal.overflow_cast-sum-then-signed32
-overflow_cast-sum-then-signed32 c =
+pub returns-in_err-dc_qi : goal.returns-in_err-dc_qi
+returns-in_err-dc_qi c =
     let f = c.ranges in
-    rw (exact f.yac_qi f.ydc_delta) (signed32-fits _ (tested f.yac_qi f.ydc_delta _ c.signed32.ensures ∙ c.if-signed32.true))
-
-pub returns-then-signed32 : goal.returns-then-signed32
-returns-then-signed32 c =
-    let f = c.ranges in
-    let e = tested f.yac_qi f.ydc_delta _ c.signed32.ensures ∙ c.if-signed32.true in
-    y1-given c.args.yac_qi c.args.ydc_delta _ _ e
-    (held16 _ c.dc_factor.type_inv ∙ c.dc_factor.ensures ∙ ap dc_factor (rw (exact f.yac_qi f.ydc_delta) (to_z-of_z (signed32-fits _ e))))
-    (held16 _ c.ac_factor.type_inv ∙ c.ac_factor.ensures ∙ ap ac_factor (to_z-of_z f.yac_qi))
+    let p = err_from_is_err_and c.from_residual.result c.from_residual.ensures.1 in
+    rw (p.1, p.2) (y1-refused _ _ _ (rw (to_z-of_z f.yac_qi, to_z-of_z f.ydc_delta) at c.in_err-dc_qi.ensures))
 
 pub returns : goal.returns
+unfolding dc_lookup ac_lookup dc_factor ac_factor
 returns c =
-    y1-refused c.args.yac_qi c.args.ydc_delta (tested c.ranges.yac_qi c.ranges.ydc_delta _ c.signed32.ensures ∙ c.if-signed32.false)
-
-pub overflow_cast-sum : goal.overflow_cast-sum
-overflow_cast-sum c = wider c.ranges.yac_qi
-
-pub overflow_cast-sum-2 : goal.overflow_cast-sum-2
-overflow_cast-sum-2 c = wider c.ranges.ydc_delta
+    let f = c.ranges in
+    let z = c.in_ok-dc_qi.dc_qi in
+    let e : R32 z ≡ z = search rules in
+    y1-given _ _ _ _ _ (rw (to_z-of_z f.yac_qi, to_z-of_z f.ydc_delta) at c.in_ok-dc_qi.ensures)
+    (held16 _ c.factor.type_inv ∙ c.factor.ensures ∙ get_or-map pos dc_lookup (clamp_index (R32 z)) 0 ∙ ap dc_factor e)
+    (held16 _ c.factor-2.type_inv ∙ c.factor-2.ensures ∙ get_or-map pos ac_lookup (clamp_index (R32 c.args.yac_qi)) 0 ∙ ap ac_factor (to_z-of_z f.yac_qi))

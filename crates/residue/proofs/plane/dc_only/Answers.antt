@@ -13,14 +13,14 @@ use Rattle.whole.proofs.Chain.{Is, widened, plus, lit, down, held, fits32}
 use Rattle.whole.proofs.Modulo.{narrow-held}
 use Rattle.rfc6386.specs.Dct.{idct_dc}
 use Rattle.residue.proofs.plane.dc_only.Goals as goal
-use Rattle.residue.proofs.plane.dc_only.Goals.{After-widen}
+use Rattle.residue.proofs.plane.dc_only.Goals.{After-from}
 
 -- the closing rounding
 abbrev closing : ℤ
 closing = pos 4
 
-total : (c : After-widen) → Is 32772 (R32 c.widen.result +ℤ closing) (c.args.dc +ℤ closing)
-total c = plus (widened c.ranges.dc c.widen.ensures) (lit closing)
+total : (c : After-from) → Is 32772 (R32 c.from.result +ℤ closing) (c.args.dc +ℤ closing)
+total c = plus (widened c.ranges.dc c.from.ensures) (lit closing)
 
 short : (z : ℤ) → nat_abs z ≤ 32772 → SFits w16 (shr_z z 8)
 short (pos n) h = record { sfits = omega arith }
@@ -29,10 +29,10 @@ short (negsuc n) h = record { sfits = omega arith }
 pub returns : goal.returns
 unfolding idct_dc
 returns c =
-    let sum = total (goal.at.returns c).After-widen in
+    let sum = total (goal.at.returns c).After-from in
     let z = c.args.dc +ℤ closing in
     ap (replicate 16)
     (held16 _ c.narrow-v.type_inv ∙ c.narrow-v.ensures ∙ ap narrow (held (down (held sum tt) 8) tt).is ∙ narrow-held (shr_z z 8) (short z sum.small))
 
-pub overflow_add-widen : goal.overflow_add-widen
-overflow_add-widen c = fits32 (total c) tt
+pub overflow_add-from : goal.overflow_add-from
+overflow_add-from c = fits32 (total c) tt

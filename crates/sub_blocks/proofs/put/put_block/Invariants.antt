@@ -6,4 +6,4 @@ use Rattle.sub_blocks.specs.Steps.{put_row}
 use Rattle.sub_blocks.proofs.put.put_block.Given as goal
 
 abbrev pub invariant-loop-r : goal.invariant-loop-r
-invariant-loop-r l = (l.r ≤ 4) × (l.b ≡ turns l.r (put_row l.at l.px) l.initial.b)
+invariant-loop-r l = (l.r ≤ 4) × (l.b ≡ turns l.r (put_row l.corner.at l.px) l.initial.b)

@@ -5,6 +5,6 @@ use Rattle.sub_blocks.proofs.walk.coded_block.Goals as goal
 pub returns : goal.returns
 unfolding coded_block prediction_at
 returns c = (
-  rw (c.sum_block.ensures, c.predict.ensures, c.corner_of-at.ensures),
-  rw (c.clipped.ensures, c.predict.ensures, c.corner_of-at.ensures),
+  rw (c.sum_block.ensures, c.predict.ensures, c.of-corner.ensures),
+  rw (c.clipped.ensures, c.predict.ensures, c.of-corner.ensures),
 )

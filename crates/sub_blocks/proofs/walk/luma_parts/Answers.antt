@@ -8,4 +8,4 @@ use Rattle.sub_blocks.proofs.walk.luma_parts.Goals as goal
 pub returns : goal.returns
 unfolding parts_drawn y_parts y_parts_clipped
 returns c =
-    rw (c.luma_of-pixels.ensures, c.walk-n.ensures.0, c.walk-n.ensures.1, c.start-b.ensures) refl
+    rw (c.luma_of.ensures, c.walk-clipped.ensures.0, c.walk-clipped.ensures.1, c.start-b.ensures) refl

@@ -4,4 +4,4 @@ use Rattle.sub_blocks.proofs.walk.skipped_block.Goals as goal
 
 pub returns : goal.returns
 unfolding skipped_block prediction_at
-returns c = rw (c.put_block.ensures, c.predict.ensures, c.corner_of-at.ensures)
+returns c = rw (c.put_block.ensures, c.predict.ensures, c.of-corner.ensures)

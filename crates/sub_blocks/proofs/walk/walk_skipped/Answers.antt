@@ -13,4 +13,4 @@ pub loop-k-preserved : goal.loop-k-preserved
 loop-k-preserved c = (omega arith, turns-step _ _ _ _ _ c.loop-k.invariant.1 c.skipped_block.ensures)
 
 pub returns : goal.returns
-returns c = turns-done _ _ _ _ _ c.loop-k.invariant.1 c.loop-k.invariant.0 c.loop-k-test.false
+returns c = turns-done _ _ _ _ _ c.loop-k.invariant.1 c.loop-k.invariant.0 (omega arith)

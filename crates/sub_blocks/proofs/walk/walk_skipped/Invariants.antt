@@ -6,4 +6,4 @@ use Rattle.sub_blocks.specs.Steps.{skipped_at}
 use Rattle.sub_blocks.proofs.walk.walk_skipped.Given as goal
 
 abbrev pub invariant-loop-k : goal.invariant-loop-k
-invariant-loop-k l = (l.k ≤ 16) × (l.b ≡ turns l.k (skipped_at l.modes) l.initial.b)
+invariant-loop-k l = (l.k ≤ 16) × (l.b ≡ turns l.k (skipped_at l.fn.modes) l.initial.b)

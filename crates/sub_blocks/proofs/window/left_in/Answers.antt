@@ -1,18 +1,15 @@
 -- `sub_blocks::window::left_in` meets its contract: the pixels are read one after another. Assumes nothing.
-use mathlib.Core.Path.{◌≡◌, refl, ◌∙◌}
-use lib.ListN.{replicate}
-use Rattle.lists.proofs.Table.{table_none, table-turn, table_done}
-use Rattle.sub_blocks.proofs.Windows.{left_is}
+use Prim.Native.Nat.{ℕ, ◌+◌, ◌-◌, ◌*◌}
+use mathlib.Core.Path.{◌∙◌}
 use native.Mathlib.Omega.{arith}
+use borrow.Author.Rules.{rules}
+use lib.ListN.{get_or}
+use Rattle.lists.proofs.FromFn.{made-table}
+use Rattle.sub_blocks.proofs.Windows.{left_is}
 use Rattle.sub_blocks.proofs.window.left_in.Goals as goal
-
-pub loop-r-init : goal.loop-r-init
-loop-r-init c = (omega arith, table_none _ _)
-
-pub loop-r-preserved : goal.loop-r-preserved
-loop-r-preserved c = (omega arith, table-turn _ _ _ _ _ c.loop-r.invariant.1 refl (omega arith))
 
 pub returns : goal.returns
 returns c =
-    let e : c.loop-r.r ≡ 4 = omega arith in
-    table_done 4 _ (replicate 4 0) _ (rw e at c.loop-r.invariant.1) refl ∙ left_is _ _ (omega arith)
+    let x = c.args in
+    made-table _ _ (λ (k : ℕ). get_or x.b.now (x.corner.at - 1 + 21 * k) 0) (λ i y q h. search rules) _ _ c.from_fn.ensures.items
+    ∙ left_is _ _ (omega arith)

@@ -7,4 +7,4 @@ use Rattle.sub_blocks.proofs.window.top_left_in.Goals as goal
 
 pub returns : goal.returns
 unfolding top_left_in
-returns c = let e : c.args.at - 21 - 1 ≡ c.args.at - 22 = omega arith in rw e
+returns c = let e : c.args.corner.at - 21 - 1 ≡ c.args.corner.at - 22 = omega arith in rw e

@@ -1,9 +1,10 @@
--- `work_buffer::luma::luma_of` meets its contract. Assumes nothing.
-use Prim.Native.Nat.{◌≤◌}
+-- `work_buffer::luma::luma_of` meets its contract: after r turns the first r rows are the macroblock's. Assumes nothing.
+use Prim.Native.Nat.{◌+◌, ◌*◌, ◌≤◌}
 use mathlib.Core.Path.{◌≡◌}
-use Rattle.lists.specs.Lists.{turns}
-use Rattle.work_buffer.proofs.ReadOut.{luma_row}
+use mathlib.Core.List.{◌++◌}
+use lib.ListN.{get_or, drop}
+use Rattle.lists.specs.Lists.{rows}
 use Rattle.work_buffer.proofs.luma.luma_of.Given as goal
 
 abbrev pub invariant-loop-r : goal.invariant-loop-r
-invariant-loop-r l = (l.r ≤ 16) × (l.out ≡ turns l.r (luma_row l.b) l.initial.out)
+invariant-loop-r l = (l.r ≤ 16) × (l.out ≡ rows 16 l.r (λ r c. get_or l.b (22 + 21 * r + c) 0) ++ drop (l.r * 16) l.initial.out)

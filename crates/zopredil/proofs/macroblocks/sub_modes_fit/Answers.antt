@@ -8,6 +8,6 @@ pub returns-then-sub_modes-eq16 : goal.returns-then-sub_modes-eq16
 unfolding sub_modes_fit
 returns-then-sub_modes-eq16 c = rw (eq-eqb _ _ c.if-sub_modes-eq16.true) refl
 
-pub returns : goal.returns
+pub returns-else-sub_modes-eq16 : goal.returns-else-sub_modes-eq16
 unfolding sub_modes_fit
-returns c = rw (ne_eqb _ _ c.if-sub_modes-eq16.false) refl
+returns-else-sub_modes-eq16 c = rw (ne_eqb _ _ c.if-sub_modes-eq16.false) refl

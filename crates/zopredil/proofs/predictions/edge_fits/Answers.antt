@@ -8,6 +8,6 @@ pub returns-then-edge-n : goal.returns-then-edge-n
 unfolding edge_fits
 returns-then-edge-n c = rw (eq-eqb _ _ c.if-edge-n.true) refl
 
-pub returns : goal.returns
+pub returns-else-edge-n : goal.returns-else-edge-n
 unfolding edge_fits
-returns c = rw (ne_eqb _ _ c.if-edge-n.false) refl
+returns-else-edge-n c = rw (ne_eqb _ _ c.if-edge-n.false) refl

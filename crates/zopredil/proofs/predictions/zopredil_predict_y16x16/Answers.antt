@@ -1,16 +1,17 @@
 -- `zopredil::predictions::zopredil_predict_y16x16` meets its contract. Assumes nothing.
-use mathlib.Core.Path.{sym, ◌∙◌}
-use Rattle.zopredil.proofs.Predicted.{luma-refused, luma-unknown, luma-drawn}
+use mathlib.Core.Path.{refl, sym, ◌∙◌}
+use native.Mathlib.Omega.{arith}
+use Rattle.zopredil.specs.Predictions.{luma_answer}
+use Rattle.zopredil.proofs.Predicted.{fit-block}
 use Rattle.zopredil.proofs.predictions.zopredil_predict_y16x16.Goals as goal
 
 pub returns-then-not-lengths_fit : goal.returns-then-not-lengths_fit
-returns-then-not-lengths_fit c = luma-refused _ _ _ _ _ (sym c.lengths_fit.ensures ∙ c.if-not-lengths_fit.true)
+unfolding luma_answer
+returns-then-not-lengths_fit c = rw (sym c.lengths_fit.ensures ∙ c.if-not-lengths_fit.true, c.number.ensures) refl
 
-pub returns-then-y_reply-ne-DONE : goal.returns-then-y_reply-ne-DONE
-returns-then-y_reply-ne-DONE c =
-    luma-unknown _ _ _ _ _ _ _ (sym c.lengths_fit.ensures ∙ c.if-not-lengths_fit.false) c.y_reply.ensures c.if-y_reply-ne-DONE.true c.clear.ensures
+pub answer-requires : goal.answer-requires
+answer-requires c = (omega arith, fit-block 16 256 _ _ _ (sym c.lengths_fit.ensures ∙ c.if-not-lengths_fit.false))
 
 pub returns : goal.returns
-returns c =
-    luma-drawn _ _ _ _ _ _ _ _ _ _ _ (sym c.lengths_fit.ensures ∙ c.if-not-lengths_fit.false) c.y_reply.ensures c.if-y_reply-ne-DONE.false c.sixteen-a.ensures
-    c.sixteen-l.ensures c.y_mode-y.ensures c.predict_y16x16-predicted.ensures c.put_luma.ensures
+unfolding luma_answer
+returns c = rw (sym c.lengths_fit.ensures ∙ c.if-not-lengths_fit.false) (c.answer.ensures ∙ c.luma.ensures)

@@ -10,11 +10,11 @@ use Rattle.zopredil.proofs.transforms.zopredil_inverse_dct.Goals as goal
 
 pub returns-then-input-ne16 : goal.returns-then-input-ne16
 unfolding dct_answer
-returns-then-input-ne16 c = rw (ne_eqb _ _ c.if-input-ne16.true) refl
+returns-then-input-ne16 c = rw (ne_eqb _ _ c.if-input-ne16.true, c.number.ensures) refl
 
 pub returns-then-out-ne16 : goal.returns-then-out-ne16
 unfolding dct_answer
-returns-then-out-ne16 c = rw (eq-eqb _ _ c.if-input-ne16.false, ne_eqb _ _ c.if-out-ne16.true) refl
+returns-then-out-ne16 c = rw (eq-eqb _ _ c.if-input-ne16.false, ne_eqb _ _ c.if-out-ne16.true, c.number-then-out-ne16.ensures) refl
 
 pub returns : goal.returns
 unfolding dct_answer
@@ -23,5 +23,5 @@ returns c =
     let two = c.if-out-ne16.false in
     rw (eq-eqb _ _ one, eq-eqb _ _ two)
     (pair refl
-    ((c.put_sixteen.ensures ∙ put_fit 16 _ _ two) ∙ c.inverse_dct_4x4.ensures
-    ∙ ap idct (c.sixteen_numbers.ensures ∙ or-zeros-fit (pos 0) 16 _ one)))
+    ((c.put.ensures ∙ put_fit 16 _ _ two) ∙ c.inverse_dct_4x4.ensures
+    ∙ ap idct (c.array.ensures ∙ or-zeros-fit (pos 0) 16 _ one)))

@@ -10,11 +10,11 @@ use Rattle.zopredil.proofs.transforms.zopredil_inverse_wht_dc_only.Goals as goal
 
 pub returns-then-out-ne16 : goal.returns-then-out-ne16
 unfolding wht_dc_answer
-returns-then-out-ne16 c = rw (ne_eqb _ _ c.if-out-ne16.true) refl
+returns-then-out-ne16 c = rw (ne_eqb _ _ c.if-out-ne16.true, c.number.ensures) refl
 
 pub returns : goal.returns
 unfolding wht_dc_answer
 returns c =
     let fit = c.if-out-ne16.false in
-    rw (eq-eqb _ _ fit) (pair refl ((c.put_sixteen.ensures ∙ put_fit 16 _ _ fit) ∙ c.inverse_wht_4x4_dc_only.ensures
+    rw (eq-eqb _ _ fit) (pair refl ((c.put.ensures ∙ put_fit 16 _ _ fit) ∙ c.inverse_wht_4x4_dc_only.ensures
     ∙ ap iwht_dc (to_z-of_z c.ranges.dc)))

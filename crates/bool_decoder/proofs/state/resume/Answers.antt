@@ -1,5 +1,0 @@
-use Rattle.bool_decoder.proofs.States.{resumes}
-use Rattle.bool_decoder.proofs.state.resume.Goals as goal
-
-pub returns : goal.returns
-returns c = record { is = resumes c.args.s }

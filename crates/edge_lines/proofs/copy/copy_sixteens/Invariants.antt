@@ -1,9 +1,0 @@
-use Prim.Native.Nat.{◌≤◌}
-use mathlib.Core.Path.{◌≡◌}
-use lib.ListN.{length}
-use Rattle.lists.specs.Lists.{turns}
-use Rattle.edge_lines.specs.Lines.{row_turn}
-use Rattle.edge_lines.proofs.copy.copy_sixteens.Given as goal
-
-abbrev pub invariant-loop-k : goal.invariant-loop-k
-invariant-loop-k l = (l.k ≤ l.h) × (length l.p ≡ length l.initial.p) × (l.p ≡ turns l.k (row_turn 16 l.at l.stride l.from l.step l.o) l.initial.p)

@@ -1,2 +1,0 @@
--- Names for the private steps of V and H.
-pub mod Way

@@ -1,5 +1,0 @@
--- `plane_distance::together` meets its contract. Assumes nothing.
-use Rattle.plane_distance.proofs.together.Goals as goal
-
-pub returns : goal.returns
-returns c = rw c.larger_of.ensures

@@ -1,2 +1,0 @@
--- Laws of an answer. Assumes nothing.
-pub mod Whole

@@ -1,2 +1,0 @@
--- The front of 32 jobs.
-pub mod Few

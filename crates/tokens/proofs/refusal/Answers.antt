@@ -1,4 +1,0 @@
-use Rattle.tokens.proofs.refusal.Goals as goal
-
-pub returns : goal.returns
-returns c = rw c.no_coefficients-zeros.ensures

@@ -78,9 +78,8 @@ fn widen_into(s: &mut [i32], to: usize, l: &[i16], from: usize, n: usize)
     requires { (to + n ≤ length s.old) × (from + n ≤ length l.now) }
     ensures { s.new ≡ widened n to from l.now s.old }
 {
-    // Kept: no plainer, since a turn has two places.
-    for i in 0..n {
-        s[to + i] = i32::from(l[from + i]);
+    for (i, x) in s[to..to + n].iter_mut().enumerate() {
+        *x = i32::from(l[from + i]);
     }
 }
 

@@ -62,7 +62,7 @@ fn scale_block(coeffs: &mut [i16], k: usize, dc: i16, ac: i16)
 {
     let at = k * 16;
     coeffs[at] = quantiser::dequant(coeffs[at], dc);
-    // Kept: no plainer, since coefficient i lies at at + i.
+    // Kept: no plainer. As one part its proof is twice as long, and `later-turn` and `block-done`, which docs/PORT.md names, are of these turns.
     for i in 0..15 {
         coeffs[at + (1 + i)] = quantiser::dequant(coeffs[at + (1 + i)], ac);
     }

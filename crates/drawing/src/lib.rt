@@ -37,6 +37,7 @@ fn sub_modes_of(bytes: [u8; 16]) -> Result<[IntraBmode; 16], Refusal>
     Ok(modes)
 }
 
+// Kept: the sub-block bytes beside their mark, from here to the end, as the walker and the theorem drawn-unmarked have them.
 fn draw_b(
     modes: MbModes,
     sub_modes: [u8; 16],
@@ -70,7 +71,6 @@ fn draw_in(
     reconstruct::decode_keyframe_mb_non_bpred(modes, neighbors, coeffs)
 }
 
-// Kept: the sub-block bytes beside their mark, here and below, as the walker and the theorem drawn-unmarked have them.
 // The planes of a macroblock whose modes are known. Refused, in this order: another number of coefficients (reply 1), in luma
 // mode B a sub-block byte that says nothing (8), luma mode B without sub-block modes (4).
 pub fn draw_with(

@@ -8,6 +8,7 @@ use crate::level::level_edge;
 use crate::upright::upright_edge;
 use macroblock::filter::{Kind, Limits, Rule};
 
+// Kept: the kind, here and in each file below, is handed down to the one `match` that makes it a filter, in edge.rt.
 fn edge(y: &mut [u8], direction: Direction, at: usize, stride: usize, kind: Kind, l: Limits)
     requires { Room direction 16 at stride y.old }
     ensures { y.new ≡ edge kind l 16 at (across direction stride) (along direction stride) y.old }
@@ -19,8 +20,7 @@ fn edge(y: &mut [u8], direction: Direction, at: usize, stride: usize, kind: Kind
 }
 
 fn own_edge(y: &mut [u8], direction: Direction, at: usize, stride: usize, there: bool, rule: Rule)
-    // Kept: `Square`, here and in U and V, is one word for what a plane has at a place; a type would hold the plane, and its clauses read two
-    // moments of it: no plainer.
+    // Kept: `Square`, here and in U and V, is one word for a place of a plane; a type that lends the plane has two moments in a clause: no plainer.
     requires { (Square y.old 16 at stride) × (there ≡ true → 4 * across direction stride ≤ at) }
     ensures { y.new ≡ own_edge rule 16 at (across direction stride) (along direction stride) there y.old }
 {

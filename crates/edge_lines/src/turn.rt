@@ -2,8 +2,7 @@
 ghost use Rattle.std.specs.Prelude.{◌≡◌, ℕ, ◌+◌, ◌*◌, ◌≤◌, ◌<◌};
 ghost use Rattle.edge_lines.specs.Lines.{Zipped, Flat};
 
-// Kept: a counted loop, of which LLVM makes vectors. By `array::from_fn` it is slower, 21,115 instructions a macroblock for 3,212 in the normal filter; by
-// `chunks_exact_mut` and `zip` 4,821.
+// Kept: a loop that LLVM makes vectors of, 3,212 instructions a macroblock in the normal filter; by `from_fn` 21,115, by `chunks_exact_mut` 4,821.
 fn shuffle(b: [u8; 128]) -> [u8; 128]
     ensures { Zipped b result }
 {

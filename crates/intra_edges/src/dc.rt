@@ -20,6 +20,7 @@ fn mean(sum: u32, count: u32) -> u8
     ((sum + count / 2) / count) as u8
 }
 
+// Kept: pixels beside marks, as in lib.rt.
 fn dc_pixel<const N: usize>(
     above: [u8; N],
     above_there: bool,
@@ -39,6 +40,7 @@ fn dc_pixel<const N: usize>(
 }
 
 // The block of N by N pixels. M is N * N.
+// Kept: pixels beside marks, as in lib.rt.
 pub(crate) fn dc_block<const N: usize, const M: usize>(
     above: [u8; N],
     above_there: bool,

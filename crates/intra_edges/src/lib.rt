@@ -28,7 +28,7 @@ pub const DEFAULT_LEFT_PIXEL: u8 = MbNeighbors::LEFT;
 // DC's pixel where both edges are absent. It stands for no absent pixel: an absent top-left is 127.
 pub const DEFAULT_TOPLEFT_DC: u8 = 128;
 
-// Kept: pixels beside a mark, from here to the end, are the project's form for an edge, and what the definitions of `Edges` take.
+// Kept: pixels beside a mark, from here to the end and in dc.rt and tm.rt, are the project's form for an edge, and what the definitions of `Edges` take.
 // One pixel, or `other` where it is absent.
 pub fn pixel_or(other: u8, pixel: u8, there: bool) -> u8
     ensures { result ≡ pixel_or other pixel there }

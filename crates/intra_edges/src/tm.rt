@@ -13,6 +13,7 @@ fn clamp_tm(l: u8, a: u8, p: u8) -> u8
 }
 
 // The block of N by N pixels. M is N * N.
+// Kept: pixels beside marks, as in lib.rt.
 pub(crate) fn tm_block<const N: usize, const M: usize>(
     above: [u8; N],
     above_there: bool,

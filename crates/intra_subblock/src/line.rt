@@ -1,5 +1,5 @@
 // Means along an edge of nine pixels, lines of them, and a sub-block drawn from a line.
-ghost use Rattle.std.specs.Prelude.{◌≡◌, ◌+◌, ◌<◌, length};
+ghost use Rattle.std.specs.Prelude.{◌≡◌, ◌+◌, ◌/◌, ◌%◌, ◌<◌, length};
 ghost use Rattle.lists.specs.Lists.{table, rows};
 ghost use Rattle.rfc6386.specs.Subblock.{avg2, avg3, avg2_at, avg3_at};
 ghost use Rattle.intra_subblock.specs.Line.{steps_line, OnLine, line_pixel};
@@ -64,11 +64,10 @@ pub(crate) fn drawn(line: &[u8], starts: [usize; 4], step: usize) -> [u8; 16]
     requires { OnLine starts step (length line.now) }
     ensures { result ≡ rows 4 4 (line_pixel line.now starts step) }
 {
-    // Kept: no plainer by from_fn, whose closure would have to require OnLine once more.
-    let mut out = [0u8; 16];
-    for i in 0..16 {
-        let at = starts[i / 4] + i % 4 * step;
-        out[i] = line[at];
-    }
-    out
+    std::array::from_fn(
+        |i| -> u8
+            requires { (i < 16) × OnLine starts step (length line.now) }
+            ensures { result ≡ line_pixel line.entry.now starts step (i / 4) (i % 4) }
+        { line[starts[i / 4] + i % 4 * step] },
+    )
 }

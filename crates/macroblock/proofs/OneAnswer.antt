@@ -29,16 +29,28 @@ use Rattle.macroblock.proofs.modes.U8FromIntraUvMode.from.Reads as uv-number
 use Rattle.macroblock.proofs.modes.U8FromIntraUvMode.from.Kinds as uv-number-k
 use Rattle.macroblock.proofs.modes.U8FromIntraBmode.from.Reads as b-number
 use Rattle.macroblock.proofs.modes.U8FromIntraBmode.from.Kinds as b-number-k
+use Rattle.macroblock.proofs.bytes.y_mode.Reads as y-mode
+use Rattle.macroblock.proofs.bytes.y_mode.Kinds as y-mode-k
+use Rattle.macroblock.proofs.bytes.y_reply.Reads as y-reply
+use Rattle.macroblock.proofs.bytes.y_reply.Kinds as y-reply-k
+use Rattle.macroblock.proofs.bytes.uv_mode.Reads as uv-mode
+use Rattle.macroblock.proofs.bytes.uv_mode.Kinds as uv-mode-k
+use Rattle.macroblock.proofs.bytes.uv_reply.Reads as uv-reply
+use Rattle.macroblock.proofs.bytes.uv_reply.Kinds as uv-reply-k
+use Rattle.macroblock.proofs.bytes.b_mode.Reads as b-mode
+use Rattle.macroblock.proofs.bytes.b_mode.Kinds as b-mode-k
+use Rattle.macroblock.proofs.bytes.b_reply.Reads as b-reply
+use Rattle.macroblock.proofs.bytes.b_reply.Kinds as b-reply-k
 use Rattle.macroblock.proofs.bytes.b_modes_known.Reads as b-modes-known
 use Rattle.macroblock.proofs.bytes.b_modes_known.Kinds as b-modes-known-k
 use Rattle.macroblock.proofs.bytes.all_within.Reads as all-within
 use Rattle.macroblock.proofs.bytes.all_within.Kinds as all-within-k
-use Rattle.macroblock.proofs.modes.IntraYModeTryFromU8.try_from.Reads as y-mode
-use Rattle.macroblock.proofs.modes.IntraYModeTryFromU8.try_from.Kinds as y-mode-k
-use Rattle.macroblock.proofs.modes.IntraUvModeTryFromU8.try_from.Reads as uv-mode
-use Rattle.macroblock.proofs.modes.IntraUvModeTryFromU8.try_from.Kinds as uv-mode-k
-use Rattle.macroblock.proofs.modes.IntraBmodeTryFromU8.try_from.Reads as b-mode
-use Rattle.macroblock.proofs.modes.IntraBmodeTryFromU8.try_from.Kinds as b-mode-k
+use Rattle.macroblock.proofs.modes.IntraYModeTryFromU8.try_from.Reads as y-mode-of
+use Rattle.macroblock.proofs.modes.IntraYModeTryFromU8.try_from.Kinds as y-mode-of-k
+use Rattle.macroblock.proofs.modes.IntraUvModeTryFromU8.try_from.Reads as uv-mode-of
+use Rattle.macroblock.proofs.modes.IntraUvModeTryFromU8.try_from.Kinds as uv-mode-of-k
+use Rattle.macroblock.proofs.modes.IntraBmodeTryFromU8.try_from.Reads as b-mode-of
+use Rattle.macroblock.proofs.modes.IntraBmodeTryFromU8.try_from.Kinds as b-mode-of-k
 
 pub luma-absent-one : OneAnswer 0 luma-absent-k.ps luma-absent-k.r luma-absent.Post
 luma-absent-one κs a x y s t = same
@@ -70,6 +82,24 @@ uv-number-one κs a x y s t = same
 pub b-number-one : OneAnswer 0 b-number-k.ps b-number-k.r b-number.Post
 b-number-one κs a x y s t = same
 
+pub y-mode-one : OneAnswer 0 y-mode-k.ps y-mode-k.r y-mode.Post
+y-mode-one κs a x y s t = same
+
+pub y-reply-one : OneAnswer 0 y-reply-k.ps y-reply-k.r y-reply.Post
+y-reply-one κs a x y s t = same
+
+pub uv-mode-one : OneAnswer 0 uv-mode-k.ps uv-mode-k.r uv-mode.Post
+uv-mode-one κs a x y s t = same
+
+pub uv-reply-one : OneAnswer 0 uv-reply-k.ps uv-reply-k.r uv-reply.Post
+uv-reply-one κs a x y s t = same
+
+pub b-mode-one : OneAnswer 0 b-mode-k.ps b-mode-k.r b-mode.Post
+b-mode-one κs a x y s t = same
+
+pub b-reply-one : OneAnswer 0 b-reply-k.ps b-reply-k.r b-reply.Post
+b-reply-one κs a x y s t = same
+
 pub b-modes-known-one : OneAnswer 0 b-modes-known-k.ps b-modes-known-k.r b-modes-known.Post
 b-modes-known-one κs a x y s t = same
 
@@ -83,11 +113,11 @@ pub inner-kind-one : OneAnswer 0 inner-kind-k.ps inner-kind-k.r inner-kind.Post
 inner-kind-one κs a x y s t = same
 
 -- ---- a reading tells its answer
-pub y-mode-one : OneAnswer 0 y-mode-k.ps y-mode-k.r y-mode.Post
-y-mode-one κs a x y s t p q = one_answer y_answer (λ w. w.0) (λ w. w.1) (λ _. refl) (λ _. refl) (λ _. refl) x y (p ∙ sym q)
+pub y-mode-of-one : OneAnswer 0 y-mode-of-k.ps y-mode-of-k.r y-mode-of.Post
+y-mode-of-one κs a x y s t p q = one_answer y_answer (λ w. w.0) (λ w. w.1) (λ _. refl) (λ _. refl) (λ _. refl) x y (p ∙ sym q)
 
-pub uv-mode-one : OneAnswer 0 uv-mode-k.ps uv-mode-k.r uv-mode.Post
-uv-mode-one κs a x y s t p q = one_answer uv_answer (λ w. w.0) (λ w. w.1) (λ _. refl) (λ _. refl) (λ _. refl) x y (p ∙ sym q)
+pub uv-mode-of-one : OneAnswer 0 uv-mode-of-k.ps uv-mode-of-k.r uv-mode-of.Post
+uv-mode-of-one κs a x y s t p q = one_answer uv_answer (λ w. w.0) (λ w. w.1) (λ _. refl) (λ _. refl) (λ _. refl) x y (p ∙ sym q)
 
-pub b-mode-one : OneAnswer 0 b-mode-k.ps b-mode-k.r b-mode.Post
-b-mode-one κs a x y s t p q = one_answer b_answer (λ w. w.0) (λ w. w.1) (λ _. refl) (λ _. refl) (λ _. refl) x y (p ∙ sym q)
+pub b-mode-of-one : OneAnswer 0 b-mode-of-k.ps b-mode-of-k.r b-mode-of.Post
+b-mode-of-one κs a x y s t p q = one_answer b_answer (λ w. w.0) (λ w. w.1) (λ _. refl) (λ _. refl) (λ _. refl) x y (p ∙ sym q)

@@ -8,7 +8,7 @@ mod modes;
 mod neighbors;
 pub mod reply;
 
-pub use bytes::{all_within, b_modes_known};
+pub use bytes::{all_within, b_mode, b_modes_known, b_reply, uv_mode, uv_reply, y_mode, y_reply};
 pub use modes::{IntraBmode, IntraUvMode, IntraYMode, MbModes};
 pub use neighbors::{ChromaEdges, LumaEdges, MbNeighbors};
 pub use reply::Refusal;

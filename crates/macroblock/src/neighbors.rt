@@ -11,8 +11,7 @@ ghost use Rattle.lists.specs.Lists.{part};
 ghost use Rattle.macroblock.specs.Neighbors.{no_luma, no_chroma, absent};
 
 // The edges of luma: the row is the top-left pixel, the sixteen above and the four above right.
-// Kept: pixels beside marks, here and in U and V, are the project's form for a neighbour record, and ten of its 81 bytes to C; of the bytes
-// of an absent part the theorems of `rfc6386/proofs/Absent.antt` speak.
+// Kept: pixels beside marks, here and in U and V, are the project's form for an edge, ten of the 81 bytes to C, and the subject of `Absent.antt`.
 #[derive(Clone, Copy)]
 pub struct LumaEdges {
     pub row: [u8; 21],

@@ -37,8 +37,7 @@ pub enum Refusal {
 }
 
 impl Refusal {
-    // Kept: numbers, which the C interface answers.
-    // The number that the C interface answers.
+    // Kept: the number that the C interface answers.
     pub fn number(self) -> u32
         ensures { result ≡ number self }
     {
@@ -78,7 +77,7 @@ impl fmt::Display for Refusal {
 
 impl Error for Refusal {}
 
-// The numbers up to 11 that are not of tokens alone, in order.
+// The numbers that a call on pictures answers, in order.
 pub fn numbers() -> [u32; 9]
     ensures { result ≡ replies }
 {

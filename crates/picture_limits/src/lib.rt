@@ -5,6 +5,7 @@ ghost use Rattle.std.specs.Prelude.{◌≡◌};
 ghost use Rattle.rfc6386.specs.Picture.{place_ok, size_ok, luma_ok, sizes_ok};
 
 // A size of at most 1,024 macroblocks a side, and a place inside it.
+// Kept: four numbers, here and in the crates above, and three planes: C hands them over so and the definitions take them so, no plainer by a struct.
 #[tactic(auto, unfolding(rfc6386::specs::Picture::place_ok))]
 pub fn place_ok(cols: usize, rows: usize, col: usize, row: usize) -> bool
     ensures { result ≡ place_ok cols rows col row }

@@ -34,12 +34,14 @@ fn add_blocks(px: &mut [u8; 64], o: &[i16; 64])
 fn clipped(px: &[u8; 64], o: &[i16; 64]) -> u32
     ensures { result ≡ total 8 (row_clipped px.now o.now) }
 {
-    let mut n = 0u32;
-    // Kept: no plainer, as in the row above.
-    for r in 0..8 {
-        n += run_clipped(px, r * 8, o, residues_at(r), 8);
-    }
-    n
+    (0..8)
+        .map(
+            |r: usize| -> u32
+                requires { r < 8 }
+                ensures { result ≡ row_clipped px.entry.now o.entry.now r }
+            { run_clipped(px, r * 8, o, residues_at(r), 8) },
+        )
+        .sum()
 }
 
 fn plane(prediction: [u8; 64], skip: bool, coeffs: &[i16], base: usize) -> ([u8; 64], u32)

@@ -1,6 +1,7 @@
 // What a sub-block writes into the work buffer: four rows of four from its corner on, the prediction as it is or with the residues
 // of one of four blocks added, which come side by side.
-ghost use Rattle.std.specs.Prelude.{◌≡◌, ◌<◌};
+ghost use Rattle.std.specs.Prelude.{◌≡◌, ◌+◌, ◌*◌, ◌/◌, ◌%◌, ◌<◌, get_or, pos};
+ghost use Rattle.clipping.specs.Clipped.{over};
 ghost use Rattle.rfc6386.specs.Walk.{put_block};
 ghost use Rattle.sub_blocks.specs.Steps.{put_row, sum_row, summed_with, clipped_with};
 
@@ -63,10 +64,13 @@ pub(crate) fn clipped(px: &[u8; 16], o: &[i16; 64], j: usize) -> u32
     requires { j < 4 }
     ensures { result ≡ clipped_with o.now j px.now }
 {
-    // Kept: no plainer by a chain, since the two lists are read at different places.
-    let mut n = 0u32;
-    for i in 0..16 {
-        n += clipping::over(px[i], o[16 * (i / 4) + 4 * j + i % 4]);
-    }
-    n
+    px.iter()
+        .enumerate()
+        .map(
+            |(i, p)| -> u32
+                requires { (i < 16) × (j < 4) }
+                ensures { result ≡ over p.entry.now (get_or o.entry.now (16 * (i / 4) + 4 * j + i % 4) (pos 0)) }
+            { clipping::over(*p, o[16 * (i / 4) + 4 * j + i % 4]) },
+        )
+        .sum()
 }

@@ -1,10 +1,9 @@
 -- The answer from the walk: past the end, or not. Assumes nothing.
 use Prim.Native.Nat.{ℕ, ◌≤◌, ◌<◌}
-use mathlib.Core.Path.{◌≡◌, refl, sym, ap, subst, ◌∙◌}
+use mathlib.Core.Path.{◌≡◌, refl, sym, ap, ◌∙◌}
 use mathlib.Core.Bool.{Bool, true, false}
 use mathlib.Core.List.{List}
 use native.Mathlib.Omega.{arith}
-use lib.IntN.{ℤ}
 use lib.ListN.{length, get_or}
 use borrow.Author.Tests.{ltb-false}
 use Rattle.lists.specs.Lists.{pick}
@@ -41,10 +40,10 @@ module _ (src : List ℕ) (above left : List Bool) (s : BoolState) (g : Got Thre
 
 -- from the walk's contract
 module _ (src probs : List ℕ) (bytes : (i : ℕ) → get_or src i 0 < 256) (zeros y2 : Bool) (above left : List Bool) (s : BoolState) (st : stands_of src s ≡ true)
-    (d : BoolDecoder) (rs : Resumes s d) (b : List ℤ) (be : b ≡ blank) (t : Thread) (e : BoolDecoder)
-    (th : Threads src (all_blocks probs zeros y2 (thread_of above left b)) d t e) (r : BoolState) (sv : Saves src e r) where
+    (d : BoolDecoder) (rs : Resumes s d) (t : Thread) (e : BoolDecoder)
+    (th : Threads src (all_blocks probs zeros y2 (thread_of above left blank)) d t e) (r : BoolState) (sv : Saves src e r) where
   read : Threaded src (all_blocks probs zeros y2 (thread_of above left blank)) (coder_of s) t e
-  read = (subst (λ (i : List ℤ). Threads src (all_blocks probs zeros y2 (thread_of above left i)) d t e) be th).is (coder_of s) (rs.is src bytes st)
+  read = th.is (coder_of s) (rs.is src bytes st)
 
   pub answer-past : length src < r.at → refused 9 above left s ≡ answered src probs zeros y2 above left s
   unfolding answered

@@ -13,7 +13,7 @@ ghost use Rattle.bool_decoder.specs.BoolCoder.{bit_of};
 ghost use Rattle.bool_decoder.specs.State.{stands_of};
 ghost use Rattle.tokens.specs.Tokens.{above_slot, left_slot, base_of, first_of, one_block, all_blocks};
 ghost use Rattle.tokens.specs.Walks.{Threads, thread_of};
-ghost use Rattle.tokens.specs.Answers.{blank, told, answered, walked, decoded};
+ghost use Rattle.tokens.specs.Answers.{told, answered, walked, decoded};
 
 use block::{band, decode_block};
 use bool_decoder::{BoolDecoder, BoolState};
@@ -151,13 +151,6 @@ fn all_blocks(
     e
 }
 
-// Kept: an array of zeros with an equation, for the proofs above.
-fn no_coefficients() -> [i16; 400]
-    ensures { result ≡ blank }
-{
-    [0; 400]
-}
-
 // From a state that stands.
 fn answer(
     src: &[u8],
@@ -173,7 +166,7 @@ fn answer(
 {
     let mut a = above;
     let mut l = left;
-    let mut coeffs = no_coefficients();
+    let mut coeffs = [0; 400];
     let d = s.resume();
     let e = all_blocks(src, probs, zeros, y2, d, &mut a, &mut l, &mut coeffs);
     let state = e.save(src);

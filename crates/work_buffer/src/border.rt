@@ -12,7 +12,7 @@
 //        row 16   l . . . . . . . . . . . . . . . . - - - -      - is never read
 ghost use Rattle.std.specs.Prelude.{◌≡◌, ◌+◌, ◌*◌, ◌<◌, ◌≤◌, length};
 ghost use Rattle.lists.specs.Lists.{part};
-ghost use Rattle.rfc6386.specs.Walk.{laid, blank, copied_down, bordered, row_or, start_of};
+ghost use Rattle.rfc6386.specs.Walk.{laid, copied_down, bordered, row_or, start_of};
 ghost use Rattle.work_buffer.specs.Steps.{first_row};
 
 use intra_edges::{edge_or, pixel_or};
@@ -29,13 +29,6 @@ fn lay(b: &mut [u8; LENGTH], at: usize, step: usize, s: &[u8], n: usize)
     for i in 0..n {
         b[at + i * step] = s[i];
     }
-}
-
-// Kept: an array of zeros with an equation, for the proofs above.
-fn blank() -> [u8; LENGTH]
-    ensures { result ≡ blank }
-{
-    [0u8; LENGTH]
 }
 
 // Four rows on, and where above-right stands in row 4.
@@ -85,7 +78,7 @@ fn right_of(row: [u8; MbNeighbors::STRIDE]) -> [u8; 4]
 fn bordered(row: [u8; MbNeighbors::STRIDE], left: [u8; 16]) -> [u8; LENGTH]
     ensures { result ≡ bordered row left }
 {
-    let mut b = blank();
+    let mut b = [0; LENGTH];
     lay(&mut b, 0, 1, &row, MbNeighbors::STRIDE);
     lay(&mut b, MbNeighbors::STRIDE, MbNeighbors::STRIDE, &left, 16);
     let right = right_of(row);

@@ -1,26 +1,33 @@
--- `planes::chroma::clipped` meets its contract. Assumes nothing.
-use Prim.Native.Nat.{◌≤◌}
+-- `planes::chroma::clipped` meets its contract: the chain adds the counts of the eight rows. Assumes nothing.
 use mathlib.Core.Path.{◌≡◌, refl, ◌∙◌}
+use Prim.Native.Nat.{ℕ}
 use native.Mathlib.Omega.{arith}
+use borrow.Author.Rules.{rules}
+use Rattle.std.proofs.Common.{tests}
+use Rattle.std.specs.List.{sum_by, range_with_len}
+use Rattle.std.proofs.lemmas.Iterator.{YieldsList-from_range, YieldsList-from_map}
+use Rattle.std.proofs.lemmas.Iterator.Consumers.{sum_by_from_yields_List, fits_by_from_yields_list}
 use Rattle.lists.specs.Lists.{total}
-use Rattle.lists.proofs.Total.{total-turn}
+use Rattle.lists.proofs.Total.{total-≤}
+use Rattle.planes.specs.Steps.{row_clipped}
 use Rattle.planes.proofs.Counts.{run-≤}
 use Rattle.planes.proofs.chroma.clipped.Goals as goal
 
-pub loop-r-init : goal.loop-r-init
+-- eight rows, one after another
+eight-rows : (f : ℕ → ℕ) → sum_by f (range_with_len 0 8) ≡ total 8 f
 unfolding total
-loop-r-init c = (omega arith, refl, omega arith)
+eight-rows f = refl
 
-pub overflow_add-n : goal.overflow_add-n
-overflow_add-n c = let h : c.run_clipped-n.result ≤ 8 = rw c.run_clipped-n.ensures (run-≤ _ _ _ _ _) in omega (arith, h)
-
-pub loop-r-preserved : goal.loop-r-preserved
-loop-r-preserved c =
-    let h : c.run_clipped-n.result ≤ 8 = rw c.run_clipped-n.ensures (run-≤ _ _ _ _ _) in
-    (omega arith, total-turn _ _ _ _ c.loop-r.invariant.1 (c.run_clipped-n.ensures ∙ rw c.residues_at.ensures), omega (arith, h))
+pub sum-requires-clause-fits : goal.sum-requires-clause-fits
+sum-requires-clause-fits c =
+    let x = c.args in
+    let rows = row_clipped x.px.now x.o.now in
+    fits_by_from_yields_list rows (range_with_len 0 8) c.map.result _ (YieldsList-from_map _ rows (YieldsList-from_range 0 8 8 c.map.ensures.source refl) c.map.ensures.closure (λ x r q k. search (rules, tests)))
+    (rw (eight-rows rows) (omega (arith, total-≤ 8 8 rows (λ r l. run-≤ _ _ _ _ 8))))
 
 pub returns : goal.returns
 returns c =
-    let l = c.loop-r in
-    let full : l.r ≡ 8 = omega arith in
-    rw full at l.invariant.1
+    let x = c.args in
+    let rows = row_clipped x.px.now x.o.now in
+    sum_by_from_yields_List rows (range_with_len 0 8) c.map.result _ c.sum.ensures.ran (YieldsList-from_map _ rows (YieldsList-from_range 0 8 8 c.map.ensures.source refl) c.map.ensures.closure (λ x r q k. search (rules, tests)))
+    ∙ eight-rows rows

@@ -1,28 +1,33 @@
--- `planes::run::run_clipped` meets its contract: after k turns the first k sums of the run are counted. Assumes nothing.
-use Prim.Native.Nat.{◌≤◌}
-use mathlib.Core.Path.{◌≡◌, refl}
+-- `planes::run::run_clipped` meets its contract: the chain adds what `over` gives of each pair. Assumes nothing.
+use mathlib.Core.Path.{◌≡◌, ◌∙◌}
+use Prim.Native.Nat.{◌+◌, ◌-◌}
 use native.Mathlib.Omega.{arith}
+use lib.ListN.{take, drop}
 use borrow.Author.Rules.{rules}
-use Rattle.lists.specs.Lists.{total}
-use Rattle.lists.proofs.Total.{total-turn}
-use Rattle.clipping.proofs.Counted.{over-≤}
-use Rattle.planes.specs.Steps.{run_clipped}
-use Rattle.planes.proofs.Counts.{run-≤}
+use Rattle.std.proofs.Common.{tests}
+use Rattle.std.specs.List.{zip}
+use Rattle.std.proofs.lemmas.Iterator.{YieldsList-from_slice, YieldsList-from_map, YieldsList-from_zip}
+use Rattle.std.proofs.lemmas.Iterator.Consumers.{YieldsList-at, sum_by_from_yields_List, fits_by_from_yields_list}
+use Rattle.planes.proofs.Counts.{counted, run-≤, run-pairs}
 use Rattle.planes.proofs.run.run_clipped.Goals as goal
 
-pub loop-k-init : goal.loop-k-init
-unfolding run_clipped total
-loop-k-init c = (omega arith, refl)
-
-pub overflow_add-clipped : goal.overflow_add-clipped
-overflow_add-clipped c =
-    let h : c.over-clipped.result ≤ 1 = rw c.over-clipped.ensures (over-≤ _ _) in
-    let k : c.loop-k.clipped ≤ c.loop-k.k = rw c.loop-k.invariant.1 (run-≤ _ _ _ _ _) in
-    omega (arith, h, k)
-
-pub loop-k-preserved : goal.loop-k-preserved
-unfolding run_clipped
-loop-k-preserved c = (omega arith, total-turn _ _ _ _ c.loop-k.invariant.1 (rw (c.over-clipped.ensures) (search rules)))
+pub sum-requires-clause-fits : goal.sum-requires-clause-fits
+sum-requires-clause-fits c =
+    let x = c.args in
+    let ps = take (x.at + x.n - x.at) (drop x.at x.px.now) in
+    let rs = take (x.start + x.n - x.start) (drop x.start x.o.now) in
+    let up : x.at + x.n - x.at ≡ x.n = omega arith in
+    let down : x.start + x.n - x.start ≡ x.n = omega arith in
+    let sums = run-pairs x.px.now x.o.now x.at x.start x.n (omega arith) (omega arith) in
+    fits_by_from_yields_list counted (zip ps rs) c.map.result _ (YieldsList-from_map _ counted (YieldsList-at c.map.ensures.source (YieldsList-from_zip (YieldsList-at c.zip.ensures.first (YieldsList-from_slice ps c.iter.ensures.rest)) (YieldsList-from_slice rs c.zip.ensures.second.0))) c.map.ensures.closure (λ x r q k. search (rules, tests)))
+    (rw (up, down, sums) (omega (arith, run-≤ x.px.now x.o.now x.at x.start x.n)))
 
 pub returns : goal.returns
-returns c = let e : c.loop-k.k ≡ c.args.n = omega arith in rw (← e) c.loop-k.invariant.1
+returns c =
+    let x = c.args in
+    let ps = take (x.at + x.n - x.at) (drop x.at x.px.now) in
+    let rs = take (x.start + x.n - x.start) (drop x.start x.o.now) in
+    let up : x.at + x.n - x.at ≡ x.n = omega arith in
+    let down : x.start + x.n - x.start ≡ x.n = omega arith in
+    sum_by_from_yields_List counted (zip ps rs) c.map.result _ c.sum.ensures.ran (YieldsList-from_map _ counted (YieldsList-at c.map.ensures.source (YieldsList-from_zip (YieldsList-at c.zip.ensures.first (YieldsList-from_slice ps c.iter.ensures.rest)) (YieldsList-from_slice rs c.zip.ensures.second.0))) c.map.ensures.closure (λ x r q k. search (rules, tests)))
+    ∙ rw (up, down) (run-pairs x.px.now x.o.now x.at x.start x.n (omega arith) (omega arith))

@@ -1,13 +1,17 @@
 -- What the sums of an index and a delta say of the answer: the first that is refused refuses the call, and where none is, each is the index that its table
--- is read at. Assumes nothing.
+-- is read at; and that the five sums of an accepted call each fit a signed 32-bit number. Assumes nothing.
 use mathlib.Core.Path.{◌≡◌, refl}
 use mathlib.Core.Bool.{Bool, true, false}
 use lib.IntN.{ℤ, ◌+ℤ◌}
+use mir.Syntax.{w32}
+use mir.Val.{SFits}
 use Rattle.std.specs.Prelude.{Result, Ok, Err}
 use Rattle.lists.specs.Lists.{both}
+use Rattle.lists.proofs.Tests.{both-says, T_true}
 use Rattle.macroblock.specs.declared.reply.Refusal.{Refusal}
 use Rattle.macroblock.specs.declared.reply.Refusal.TheVariants as refusal
 use Rattle.quantiser.specs.Factors.{signed32, with_delta}
+use Rattle.quantiser.proofs.Sum.{signed32-fits}
 use Rattle.mb_factors.specs.declared.MbDequantFactors.{MbDequantFactors}
 use Rattle.mb_factors.specs.Factors.{sums_fit, factors_given, mb_factors, factors_at, of_factors, told}
 
@@ -79,3 +83,32 @@ module _ (q ydc y2dc y2ac uvdc uvac : ℤ) where
       let d-is = sum-is q uvdc d k in
       let e-is = sum-is q uvac e l in
       rw (m, a-is.1, b-is.1, c-is.1, d-is.1, e-is.1, a-is.0, b-is.0, c-is.0, d-is.0, e-is.0) refl
+
+-- what an accepted call knows
+pub record Sums (q ydc y2dc y2ac uvdc uvac : ℤ) : Type 0 where
+  pub y1-dc : SFits w32 (q +ℤ ydc)
+  pub y2-dc : SFits w32 (q +ℤ y2dc)
+  pub y2-ac : SFits w32 (q +ℤ y2ac)
+  pub uv-dc : SFits w32 (q +ℤ uvdc)
+  pub uv-ac : SFits w32 (q +ℤ uvac)
+
+-- five tests that hold together hold each
+each : (a b c d e : Bool) → both a (both b (both c (both d e))) ≡ true → (a ≡ true) × (b ≡ true) × (c ≡ true) × (d ≡ true) × (e ≡ true)
+each a b c d e h =
+    let p = both-says a (both b (both c (both d e))) h in
+    let q = both-says b (both c (both d e)) (T_true (both b (both c (both d e))) p.1) in
+    let r = both-says c (both d e) (T_true (both c (both d e)) q.1) in
+    let s = both-says d e (T_true (both d e) r.1) in
+    (T_true a p.0, T_true b q.0, T_true c r.0, T_true d s.0, T_true e s.1)
+
+pub sums-fit : (q ydc y2dc y2ac uvdc uvac : ℤ) → sums_fit q ydc y2dc y2ac uvdc uvac ≡ true → Sums q ydc y2dc y2ac uvdc uvac
+unfolding sums_fit
+sums-fit q ydc y2dc y2ac uvdc uvac h =
+    let e = each (signed32 (q +ℤ ydc)) (signed32 (q +ℤ y2dc)) (signed32 (q +ℤ y2ac)) (signed32 (q +ℤ uvdc)) (signed32 (q +ℤ uvac)) h in
+    record {
+      y1-dc = signed32-fits (q +ℤ ydc) e.0;
+      y2-dc = signed32-fits (q +ℤ y2dc) e.1;
+      y2-ac = signed32-fits (q +ℤ y2ac) e.2;
+      uv-dc = signed32-fits (q +ℤ uvdc) e.3;
+      uv-ac = signed32-fits (q +ℤ uvac) e.4;
+    }

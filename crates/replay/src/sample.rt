@@ -54,7 +54,9 @@ fn turn(input: &mut impl Read, planes: &mut [u8; 4096], before: Progress) -> io:
     Ok(at.stopped(Outcome::NoFormat))
 }
 
-// A proved loop has to end, and nothing says that a file does: this one takes a million records at most.
+// A proved loop has to end, and nothing says that a file does: this one takes a million records at most. Inlined, it has its buffers
+// in the place of those that `main` prints an error with, and not beside them: 8 KiB of stack.
+#[inline(always)]
 pub fn replay(rt: &impl Print, input: &mut impl Read) -> io::Result<()> {
     let mut planes = [0; 4096];
     let mut counts = [0u64; 18];

@@ -114,11 +114,11 @@ fn cut_macroblock(still: &Still, planes: &Planes, k: usize, out: &mut [u8; 384])
 }
 
 impl Shelf {
-    // All items of a drawn still, beside their jobs. The jobs after the n-th are not looked at.
-    pub fn of(still: &Still, planes: &Planes) -> (Self, [Job; 32]) {
-        let n = still.count();
-        let mut shelf = Shelf {
-            count: n,
+    // Of a drawn still, its items not laid yet.
+    pub fn blank(still: &Still, planes: &Planes) -> Self {
+        let count = still.count();
+        Shelf {
+            count,
             modes: [0; 66],
             records: [0; 1782],
             sub_modes: [0; 352],
@@ -126,13 +126,18 @@ impl Shelf {
             pixels: [0; 8448],
             replies: [0; 22],
             clipped: planes.clipped(),
-        };
+        }
+    }
+
+    // Lays all items, and answers their jobs. The jobs after the n-th are not looked at.
+    pub fn lay_all(&mut self, still: &Still, planes: &Planes) -> [Job; 32] {
+        let n = still.count();
         let mut jobs = [job_of(still, planes, 0); 32];
         // Kept: no plainer, since item i is another macroblock's.
         for i in 0..n {
-            jobs[i] = shelf.lay(still, planes, macroblock_of(i, n), i);
+            jobs[i] = self.lay(still, planes, macroblock_of(i, n), i);
         }
-        (shelf, jobs)
+        jobs
     }
 
     // Macroblock k as item i: its bytes, its coefficients and its pixels, and as the answer its job.

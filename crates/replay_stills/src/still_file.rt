@@ -145,20 +145,23 @@ pub struct Planes {
 }
 
 impl Planes {
-    // As the library draws the still, beside whether it does. A file that is no still's has planes of zeros.
-    pub fn of(still: &Still) -> (Self, bool) {
-        let mut y = [0; 5632];
-        let mut u = [0; 1408];
-        let mut v = [0; 1408];
-        let mut clipped = [0; 1];
-        let drawn = still.is_one() && draw(still, &mut y, &mut u, &mut v, &mut clipped) == 0;
-        let planes = Planes {
-            y,
-            u,
-            v,
-            clipped: clipped[0],
-        };
-        (planes, drawn)
+    // Of no still.
+    pub fn blank() -> Self {
+        Planes {
+            y: [0; 5632],
+            u: [0; 1408],
+            v: [0; 1408],
+            clipped: 0,
+        }
+    }
+
+    // Draws the still as the library does, and answers whether it did. A file that is no still's leaves all as it is.
+    pub fn draw(&mut self, still: &Still) -> bool {
+        let mut clipped = [self.clipped; 1];
+        let drawn = still.is_one()
+            && draw(still, &mut self.y, &mut self.u, &mut self.v, &mut clipped) == 0;
+        self.clipped = clipped[0];
+        drawn
     }
 
     // Kept: the three planes of a still, a name each.

@@ -14,8 +14,10 @@ pub struct Verdict {
 impl Verdict {
     // Of a still whose planes are those in the bytes.
     pub fn of(still: &Still, bytes: &[u8; 65536]) -> Self {
-        let (planes, drawn) = Planes::of(still);
-        let (mut shelf, jobs) = Shelf::of(still, &planes);
+        let mut planes = Planes::blank();
+        let drawn = planes.draw(still);
+        let mut shelf = Shelf::blank(still, &planes);
+        let jobs = shelf.lay_all(still, &planes);
         let loose = shelf.agrees_of_jobs(jobs) && shelf.agrees_of_bytes();
         let damaged = shelf.agrees_damaged();
         Verdict {

@@ -1,21 +1,18 @@
 -- Runs of bytes and rows of them, byte by byte.
 --     pasted-there, pasted-beside     a run: what stands at a place that it took, and at one that it did not
---     cut-is, pasted-is               a run as a part of a slice, taken and put back
 --     put-there, put-beside           the same of rows
 -- Assumes nothing.
-use Prim.Native.Nat.{ℕ, zero, suc, ◌+◌, ◌-◌, ◌*◌, ◌<◌, ◌≤◌}
+use Prim.Native.Nat.{ℕ, zero, suc, ◌+◌, ◌*◌, ◌<◌, ◌≤◌}
 use mathlib.Core.Path.{◌≡◌, refl, sym, ap, subst, ◌∙◌}
 use mathlib.Core.Logic.{◌≢◌, ⊎_elim}
-use mathlib.Core.List.{List, ◌++◌}
+use mathlib.Core.List.{List}
 use native.Mathlib.Nat.{eq-or-lt_of_le, le_of_suc-le-suc, not-suc-le-zero, le_refl, mul-le-mul_right}
 use native.Mathlib.Omega.{arith}
-use lib.ListN.{length, get_or, take, drop, length-append, length-drop, get_or-append}
-use Rattle.std.proofs.lemmas.List.{ext_get_or, length-take-le, get_or-take, get_or-drop, get_or-append_right}
+use lib.ListN.{length, get_or}
 use Rattle.lists.specs.Lists.{turns}
-use Rattle.lists.proofs.Table.{table_at, table-ext, table-take}
+use Rattle.lists.proofs.Table.{table_at}
 use Rattle.edge_lines.specs.Lines.{cut, pasted, Fits, row_turn, rows_put}
 use Rattle.edge_lines.proofs.Stores.{length-stores, beside, there}
-use Rattle.edge_lines.proofs.Window.{lt-or-ge}
 
 module _ (n at : ℕ) (q p : List ℕ) where
   pub length-pasted : length (pasted n at q p) ≡ length p
@@ -29,47 +26,6 @@ module _ (n at : ℕ) (q p : List ℕ) where
   pub pasted-beside : (j : ℕ) → ((k : ℕ) → k < n → j ≢ at + k) → get_or (pasted n at q p) j 0 ≡ get_or p j 0
   unfolding pasted
   pasted-beside j h = beside (λ k. at + k) (λ k. get_or q k 0) n p j h
-
-pub cut-is : (w from k : ℕ) (o : List ℕ) → k ≡ w → from + w ≤ length o → take k (drop from o) ≡ cut w from o
-cut-is w from k o e h =
-    rw e
-    (sym
-    (table-ext w (λ i. get_or o (from + i) 0) (λ i. get_or (drop from o) i 0) (λ i _. sym (get_or-drop from o i 0))
-    ∙ table-take w (drop from o) 0 (rw length-drop (omega arith))))
-
-pub pasted-is : (w at k : ℕ) (q p : List ℕ) → k ≡ w → length q ≡ w → at + w ≤ length p → take at p ++ (q ++ drop k (drop at p)) ≡ pasted w at q p
-pasted-is w at k q p e l h = ext_get_or 0 (take at p ++ (q ++ drop k (drop at p))) (pasted w at q p) size (λ j _. each j)
-  where
-    t : length (take at p) ≡ at
-    t = length-take-le at p (omega arith)
-
-    size : length (take at p ++ (q ++ drop k (drop at p))) ≡ length (pasted w at q p)
-    size = rw (length-append, t, length-append, l, length-drop, length-drop, length-pasted) (omega arith)
-
-    each : (j : ℕ) → get_or (take at p ++ (q ++ drop k (drop at p))) j 0 ≡ get_or (pasted w at q p) j 0
-    each j =
-        ⊎_elim
-        (λ (x : j < at).
-        get_or-append (take at p) (q ++ drop k (drop at p)) 0 j (subst (λ (m : ℕ). j < m) (sym t) x)
-        ∙ get_or-take at p j 0 x
-        ∙ sym (pasted-beside w at q p j (λ m (s : m < w) (r : j ≡ at + m). omega arith)))
-        (λ (y : at ≤ j).
-        let i : at + (j - at) ≡ j = omega arith in
-        get_or-append_right (take at p) (q ++ drop k (drop at p)) at j 0 t y
-        ∙ ⊎_elim
-        (λ (x : j < at + w).
-        get_or-append q (drop k (drop at p)) 0 (j - at) (subst (λ (m : ℕ). j - at < m) (sym l) (omega arith))
-        ∙ sym (pasted-there w at q p (j - at) (omega arith) (omega arith))
-        ∙ ap (λ (m : ℕ). get_or (pasted w at q p) m 0) i)
-        (λ (z : at + w ≤ j).
-        let n : at + (k + (j - at - w)) ≡ j = omega (arith, e, z) in
-        get_or-append_right q (drop k (drop at p)) w (j - at) 0 l (omega arith)
-        ∙ get_or-drop k (drop at p) (j - at - w) 0
-        ∙ get_or-drop at p (k + (j - at - w)) 0
-        ∙ ap (λ (m : ℕ). get_or p m 0) n
-        ∙ sym (pasted-beside w at q p j (λ m (s : m < w) (r : j ≡ at + m). omega arith)))
-        (lt-or-ge j (at + w)))
-        (lt-or-ge j at)
 
 -- rows that are at least their own width apart do not meet
 pub rows_apart : (w at s k m d i : ℕ) → w ≤ s → k < m → d < w → i < w → at + k * s + d ≢ at + m * s + i

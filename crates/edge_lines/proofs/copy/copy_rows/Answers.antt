@@ -1,34 +1,47 @@
-use Prim.Native.Nat.{ℕ, ◌+◌, ◌-◌, ◌*◌}
+use Prim.Native.Nat.{ℕ, ◌+◌, ◌*◌}
 use mathlib.Core.Path.{◌≡◌, refl, ap, ◌∙◌}
-use mathlib.Core.List.{List, ◌++◌}
+use mathlib.Core.List.{List}
 use native.Mathlib.Omega.{arith}
-use lib.ListN.{length, take, drop}
+use lib.ListN.{length-set, length-replicate}
 use Rattle.lists.specs.Lists.{turns}
-use Rattle.lists.proofs.Table.{table-length}
+use Rattle.lists.proofs.Table.{table-all}
 use Rattle.lists.proofs.Turns.{turns-step, turns-done}
-use Rattle.edge_lines.specs.Lines.{cut, rows_put}
-use Rattle.edge_lines.proofs.Rows.{cut-is, pasted-is, length-pasted}
+use Rattle.edge_lines.specs.Lines.{cut, pasted, rows_put}
 use Rattle.edge_lines.proofs.copy.copy_rows.Goals as goal
 
 pub loop-k-init : goal.loop-k-init
 unfolding turns
 loop-k-init g c = (omega arith, refl, refl)
 
+pub loop-j-init : goal.loop-j-init
+unfolding turns
+loop-j-init g c = (omega arith, length-replicate _ _, refl)
+
+pub loop-j-preserved : goal.loop-j-preserved
+loop-j-preserved g c =
+    let i = c.loop-j.invariant in
+    (omega arith, simp length-set i.1, turns-step _ _ _ _ _ i.2 refl)
+
+pub loop-i-init : goal.loop-i-init
+unfolding turns
+loop-i-init g c = (omega arith, refl, refl)
+
+pub loop-i-preserved : goal.loop-i-preserved
+loop-i-preserved g c =
+    let i = c.loop-i.invariant in
+    (omega arith, simp length-set i.1, turns-step _ _ _ _ _ i.2 refl)
+
 pub loop-k-preserved : goal.loop-k-preserved
+unfolding pasted
 loop-k-preserved g c =
     let i = c.loop-k.invariant in
+    let l = c.loop-i.invariant in
+    let r = c.loop-j.invariant in
     let a = c.args in
-    let w = g.row.W in
-    let p = c.loop-k.p in
-    let o : List ℕ = a.o.now in
-    let to = a.at + c.loop-k.k * a.stride in
-    let start = a.from + c.loop-k.k * a.step in
-    let h = c.requires.0.inside c.loop-k.k c.loop-k-test.true in
-    let u = c.requires.1.inside c.loop-k.k c.loop-k-test.true in
-    let row : c.copy_from_slice-in-loop-k.new.self ≡ cut w start o =
-    c.copy_from_slice-in-loop-k.ensures.after ∙ c.copy_from_slice.ensures.after ∙ cut-is w start (start + w - start) o (omega arith) u in
-    let e = ap (λ (q : List ℕ). take to p ++ (q ++ drop (to + w - to) (drop to p))) row ∙ pasted-is w to (to + w - to) (cut w start o) p (omega arith) (table-length w _) (omega arith) in
-    (omega arith, ap (λ (l : List ℕ). length l) e ∙ length-pasted w to (cut w start o) p ∙ i.1, turns-step _ _ _ _ _ i.2 e)
+    let row : c.loop-j.row ≡ cut g.row.W (a.from + c.loop-k.k * a.step) a.o.now =
+    turns-done _ _ _ _ _ r.2 r.0 c.loop-j-test.false ∙ table-all g.row.W _ _ (length-replicate _ _) in
+    let laid = turns-done _ _ _ _ _ l.2 l.0 c.loop-i-test.false in
+    (omega arith, l.1 ∙ i.1, turns-step _ _ _ _ _ i.2 (laid ∙ ap (λ (q : List ℕ). pasted g.row.W (a.at + c.loop-k.k * a.stride) q c.loop-k.p) row))
 
 pub returns : goal.returns
 unfolding rows_put

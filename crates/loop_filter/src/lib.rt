@@ -55,7 +55,7 @@ fn chroma_edges(
 }
 
 // One level for the picture, or a level for each macroblock.
-// Kept: an enum, since a closure in its place makes two copies of all below it and is slower: 3,495 instructions a macroblock for 3,210 in the normal filter.
+// Kept: an enum, since a closure in its place makes two copies of all below it and is slower: by 285 instructions a macroblock in the normal filter.
 #[derive(Clone, Copy)]
 enum Levels<'a> {
     One(u8),
@@ -155,10 +155,11 @@ impl Picture {
 }
 
 // Whether each level is at most 63.
+// Kept: a fold by `&` has no branch, so that LLVM makes vectors of it: under 1 instruction a level; `all`, which may stop early, takes 6.
 fn levels_ok(levels: &[u8]) -> bool
     ensures { IsTrue result ↔ All (λ m. m ≤ 63) levels.now }
 {
-    levels.iter().all(|&level| level <= 63)
+    levels.iter().fold(true, |low, &level| low & (level <= 63))
 }
 
 // A picture refused by its size, the lengths of its slices, whether its levels are at most 63, its sharpness or its kind.

@@ -10,7 +10,7 @@ ghost use Rattle.edge_filters.specs.Pixels.{held, pull, nudged, eased_if, spread
 use macroblock::filter::{Across, Kind, Limits};
 
 // |x - y|.
-// Kept: `abs_diff` in its place is slower: 43,126 instructions a macroblock for 3,194 in the normal filter, 1,570 for 1,411 in the simple one.
+// Kept: `abs_diff` in its place is slower: by 39,932 instructions a macroblock in the normal filter, by 159 in the simple one.
 fn gap(x: u8, y: u8) -> u8
     ensures { result ≡ apart x y }
 {

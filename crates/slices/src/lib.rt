@@ -9,7 +9,9 @@ pub fn copy<T: Copy>(to: &mut [T], from: &[T])
     ensures { to.new ≡ copied from.now to.old }
 {
     if to.len() == from.len() {
-        to.copy_from_slice(from);
+        for i in 0..to.len() {
+            to[i] = from[i];
+        }
     }
 }
 

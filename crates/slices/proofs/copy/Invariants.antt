@@ -1,0 +1,7 @@
+-- `slices::copy` meets its contract: after i turns the first i elements are those of `from`. Assumes nothing.
+use mathlib.Core.Path.{◌≡◌}
+use lib.ListN.{take}
+use Rattle.slices.proofs.copy.Given as goal
+
+abbrev pub invariant-loop-i : goal.invariant-loop-i
+invariant-loop-i g l = take l.i l.to ≡ take l.i l.from

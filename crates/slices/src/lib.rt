@@ -40,6 +40,7 @@ pub fn put<T: Copy, const N: usize>(to: &mut [T], elements: &[T; N])
 }
 
 // Kept: three parts of one lent slice; no plainer by value.
+#[inline(always)]
 fn lay(to: &mut [u8], y: &[u8; 256], u: &[u8; 64], v: &[u8; 64])
     requires { length to.old ≡ 384 }
     ensures { to.new ≡ y.now ++ (u.now ++ v.now) }
@@ -49,7 +50,9 @@ fn lay(to: &mut [u8], y: &[u8; 256], u: &[u8; 64], v: &[u8; 64])
     put(&mut to[320..384], v);
 }
 
-// Y, U and V of a macroblock, one after another; nothing into a slice of another length than 384.
+// Y, U and V of a macroblock, one after another; nothing into a slice of another length than 384. Inlined, so
+// that LLVM sees that the caller's planes lie apart from `to`.
+#[inline(always)]
 pub fn put_planes(to: &mut [u8], y: &[u8; 256], u: &[u8; 64], v: &[u8; 64])
     ensures { to.new ≡ put_in 384 (y.now ++ (u.now ++ v.now)) to.old }
 {

@@ -53,9 +53,7 @@ pub(crate) fn row_above<const M: usize>(
     let stride = n * cols;
     let x = n * col;
     if 0 < col && x - 1 + M <= stride {
-        let mut above = [0; M];
-        above.copy_from_slice(row_part(plane, stride, n * row - 1, x - 1, M));
-        return above;
+        return slices::array(row_part(plane, stride, n * row - 1, x - 1, M), 0);
     }
     let pixels = row_part(plane, stride, n * row - 1, 0, stride);
     border_row(pixels, right, x)

@@ -1,27 +1,23 @@
 -- `gathering::edges::row_above` meets its contract: inside the picture the plane has the part, and all of it is copied; at its ends the
 -- picture's row is read pixel by pixel. Assumes nothing.
-use mathlib.Core.Path.{refl, sym, ◌∙◌}
+use mathlib.Core.Path.{refl, ◌∙◌}
 use native.Mathlib.Omega.{arith}
 use borrow.Author.Tests.{le-ltb}
-use lib.ListN.{length-replicate}
 use Rattle.rfc6386.specs.Picture.{row_above}
 use Rattle.picture_limits.proofs.Bounds.{bounds}
 use Rattle.gathering.proofs.Copied.{row-length, border-is, inside-length, inside-is}
+use Rattle.slices.proofs.Copied.{or-zeros-fit}
 use Rattle.gathering.proofs.edges.row_above.Goals as goal
 
 pub returns-then-row-eq0 : goal.returns-then-row-eq0
 unfolding row_above
 returns-then-row-eq0 g c = rw (le-ltb 0 c.args.row (omega arith)) refl
 
-pub copy_from_slice-requires : goal.copy_from_slice-requires
-copy_from_slice-requires g c =
-    let b = c.requires in
-    length-replicate _ _ ∙ sym (inside-length b.0 (omega arith) c.if-col-gt0.true _ b.1 (omega arith) _ c.row_part.ensures.0)
-
 pub returns-then-x-stride : goal.returns-then-x-stride
 returns-then-x-stride g c =
     let b = c.requires in
-    inside-is b.0 (omega arith) c.if-col-gt0.true _ b.1 c.if-x-stride.true _ c.row_part.ensures.0 _ _ c.copy_from_slice.ensures.after
+    let whole = inside-length b.0 (omega arith) c.if-col-gt0.true _ b.1 (omega arith) _ c.row_part.ensures.0 in
+    inside-is b.0 (omega arith) c.if-col-gt0.true _ b.1 c.if-x-stride.true _ c.row_part.ensures.0 _ _ (c.array.ensures ∙ or-zeros-fit _ _ _ whole)
 
 pub border_row-requires : goal.border_row-requires
 border_row-requires g c =

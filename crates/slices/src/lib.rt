@@ -9,6 +9,8 @@ pub fn copy<T: Copy>(to: &mut [T], from: &[T])
     ensures { to.new ≡ copied from.now to.old }
 {
     if to.len() == from.len() {
+        // Kept: a loop that LLVM makes one move of; `copy_from_slice` goes by pointers, of which it tests whether they
+        // overlap: 28 instructions a call of `zopredil_inverse_wht_dc_only` for 17.
         for i in 0..to.len() {
             to[i] = from[i];
         }

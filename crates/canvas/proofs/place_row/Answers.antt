@@ -3,4 +3,4 @@ use Rattle.canvas.proofs.Rows.{row-laid}
 use Rattle.canvas.proofs.place_row.Goals as goal
 
 pub returns : goal.returns
-returns c = rw c.copy_from_slice.ensures.after (row-laid _ _ _ _ _ c.requires.0 c.requires.1)
+returns c = rw c.lay.ensures (row-laid _ _ _ _ _ c.requires.0 c.requires.1)

@@ -10,15 +10,15 @@ use macroblock::{Refusal, reply};
 // The elements that a call made into `out`; zeros where it is refused.
 pub(crate) fn answer<T: Copy, const N: usize>(
     out: &mut [T],
-    made: Result<[T; N], Refusal>,
+    made: &Result<[T; N], Refusal>,
     zero: T,
 ) -> u32
     requires { length out.old ≡ N }
-    ensures { (result beside out.new) ≡ told zero N made }
+    ensures { (result beside out.new) ≡ told zero N made.now }
 {
     match made {
         Ok(elements) => {
-            slices::put(out, &elements);
+            slices::put(out, elements);
             reply::DONE
         }
         Err(refusal) => {

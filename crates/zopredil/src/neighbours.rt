@@ -31,7 +31,7 @@ pub fn zopredil_gather(
         return Refusal::WrongLength.number();
     }
     let bytes = gathered(y, u, v, cols, rows, col, row, slices::array(right, 0));
-    answer(record, bytes, 0)
+    answer(record, &bytes, 0)
 }
 
 fn gathered(
@@ -58,5 +58,5 @@ pub fn zopredil_right_pixels(y: &[u8], cols: usize, rows: usize, row: usize, out
     if out.len() != 4 {
         return Refusal::WrongLength.number();
     }
-    answer(out, right_pixels::right_pixels(y, cols, rows, row), 0)
+    answer(out, &right_pixels::right_pixels(y, cols, rows, row), 0)
 }

@@ -28,7 +28,7 @@ pub fn zopredil_predict_y16x16(mode: u8, above: &[u8], left: &[u8], p: u8, out: 
     if !lengths_fit(16, 256, above.len(), left.len(), out.len()) {
         return Refusal::WrongLength.number();
     }
-    answer(out, luma(mode, above, left, p), 0)
+    answer(out, &luma(mode, above, left, p), 0)
 }
 
 fn luma(mode: u8, above: &[u8], left: &[u8], p: u8) -> Result<[u8; 256], Refusal>
@@ -52,7 +52,7 @@ pub fn zopredil_predict_uv8x8(mode: u8, above: &[u8], left: &[u8], p: u8, out: &
     if !lengths_fit(8, 64, above.len(), left.len(), out.len()) {
         return Refusal::WrongLength.number();
     }
-    answer(out, chroma(mode, above, left, p), 0)
+    answer(out, &chroma(mode, above, left, p), 0)
 }
 
 fn chroma(mode: u8, above: &[u8], left: &[u8], p: u8) -> Result<[u8; 64], Refusal>
@@ -82,7 +82,7 @@ pub fn zopredil_predict_b4x4(mode: u8, above: &[u8], left: &[u8], p: u8, out: &m
     if out.len() != 16 {
         return Refusal::WrongLength.number();
     }
-    answer(out, sub_block(mode, above, left, p), 0)
+    answer(out, &sub_block(mode, above, left, p), 0)
 }
 
 fn sub_block(mode: u8, above: &[u8], left: &[u8], p: u8) -> Result<[u8; 16], Refusal>

@@ -19,7 +19,7 @@ pub fn zopredil_y1_factors(yac_qi: i32, ydc_delta: i32, out: &mut [i16]) -> u32
     if out.len() != 2 {
         return Refusal::WrongLength.number();
     }
-    answer(out, factors(yac_qi, ydc_delta), 0)
+    answer(out, &factors(yac_qi, ydc_delta), 0)
 }
 
 fn factors(yac_qi: i32, ydc_delta: i32) -> Result<[i16; 2], Refusal>
@@ -61,7 +61,7 @@ pub fn zopredil_dequantise(
         return Refusal::WrongLength.number();
     }
     let made = dequantised(yac_qi, ydc, y2dc, y2ac, uvdc, uvac, coeffs);
-    answer(factors, made, 0)
+    answer(factors, &made, 0)
 }
 
 fn dequantised(
@@ -139,7 +139,7 @@ pub fn zopredil_inverse_dct_add_into(
         return Refusal::WrongLength.number();
     }
     let count = added(slices::array(input, 0), plane, stride, sub_row, sub_col);
-    answer(clipped, count, 0)
+    answer(clipped, &count, 0)
 }
 
 fn added(

@@ -2,7 +2,7 @@
 // it must have; 8, and zeros written, for a number that is no mode's.
 ghost use Rattle.std.specs.Prelude.{◌≡◌, length};
 ghost use Rattle.lists.specs.Lists.{◌beside◌};
-ghost use Rattle.zopredil.specs.Predictions.{edge_fits, lengths_fit, luma_drawn, chroma_drawn, sub_block_drawn, luma_answer, chroma_answer, sub_block_answer};
+ghost use Rattle.zopredil.specs.Predictions.{edge_fits, lengths_fit, chroma_drawn, sub_block_drawn, luma_answer, chroma_answer, sub_block_answer};
 ghost use Rattle.zopredil.specs.Told.{told};
 
 use crate::answers::answer;
@@ -28,21 +28,20 @@ pub fn zopredil_predict_y16x16(mode: u8, above: &[u8], left: &[u8], p: u8, out: 
     if !lengths_fit(16, 256, above.len(), left.len(), out.len()) {
         return Refusal::WrongLength.number();
     }
-    answer(out, &luma(mode, above, left, p), 0)
-}
-
-fn luma(mode: u8, above: &[u8], left: &[u8], p: u8) -> Result<[u8; 256], Refusal>
-    ensures { told 0 256 result ≡ luma_drawn mode above.now left.now p }
-{
-    let mode = IntraYMode::try_from(mode)?;
-    intra_predict::predict_y16x16(
-        mode,
-        slices::array(above, 0),
-        above.len() == 16,
-        slices::array(left, 0),
-        left.len() == 16,
-        p,
-    )
+    match IntraYMode::try_from(mode) {
+        Ok(mode) => {
+            let made = intra_predict::predict_y16x16(
+                mode,
+                slices::array(above, 0),
+                above.len() == 16,
+                slices::array(left, 0),
+                left.len() == 16,
+                p,
+            );
+            answer(out, &made, 0)
+        }
+        Err(refusal) => answer::<u8, 256>(out, &Err(refusal), 0),
+    }
 }
 
 // 8x8 chroma: edges of 8, or empty where they are absent; 64 pixels out.

@@ -10,23 +10,12 @@ ghost use Rattle.canvas.specs.Into.{told, told_into};
 use macroblock::Refusal;
 use reconstruct::ReconstructedMb;
 
-// A row of pixels over another of its length.
-// Kept: a loop, since copy_from_slice tests for overlap where it runs.
-fn lay(row: &mut [u8], pixels: &[u8])
-    requires { length row.old ≡ length pixels.now }
-    ensures { row.new ≡ pixels.now }
-{
-    for (k, pixel) in row.iter_mut().enumerate() {
-        *pixel = pixels[k];
-    }
-}
-
 // n pixels of the block from `from` on, put from `at` on.
 fn place_row(plane: &mut [u8], at: usize, block: &[u8], from: usize, n: usize)
     requires { (at + n ≤ length plane.old) × (from + n ≤ length block.now) }
     ensures { plane.new ≡ turns n (store (λ x. at + x) (λ x. get_or block.now (from + x) 0)) plane.old }
 {
-    lay(&mut plane[at..at + n], &block[from..from + n]);
+    slices::copy(&mut plane[at..at + n], &block[from..from + n]);
 }
 
 // A block of n rows of n pixels in its place.

@@ -28,6 +28,7 @@ pub fn zopredil_predict_y16x16(mode: u8, above: &[u8], left: &[u8], p: u8, out: 
     if !lengths_fit(16, 256, above.len(), left.len(), out.len()) {
         return Refusal::WrongLength.number();
     }
+    // Kept: here, and not in a function of its own as U's and V's, where its 256 pixels would be moved once more: 39 instructions a call.
     match IntraYMode::try_from(mode) {
         Ok(mode) => {
             let made = intra_predict::predict_y16x16(
